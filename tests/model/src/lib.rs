@@ -1,0 +1,17 @@
+//! A plain model of the tag index, written from its specification alone.
+//!
+//! It shares nothing with the index it is compared with. Quoted words in the
+//! comments are the specification's.
+
+pub mod answer;
+pub mod bits;
+pub mod calls;
+pub mod day_book;
+pub mod index;
+pub mod leaf_list;
+pub mod map;
+pub mod pages;
+pub mod search;
+pub mod sound;
+pub mod table;
+pub mod tag_code;
