@@ -1,0 +1,11 @@
+//! Links the static libraries that `rt staticlib` writes.
+
+use std::path::Path;
+
+fn main() {
+    let root = Path::new(env!("CARGO_MANIFEST_DIR")).join("../..");
+    let archives = root.join("target/staticlib");
+    println!("cargo:rustc-link-search=native={}", archives.display());
+    println!("cargo:rustc-link-lib=static=tag_code");
+    println!("cargo:rerun-if-changed={}", archives.display());
+}
