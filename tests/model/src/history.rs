@@ -6,6 +6,7 @@ use crate::calls;
 use crate::claims::claims;
 use crate::index::Room;
 use crate::map::{Lengths, Map};
+use crate::sound::sound;
 use crate::table::Tables;
 
 /// A call with its arguments.
@@ -65,10 +66,11 @@ pub struct History {
     pub calls: Vec<Call>,
 }
 
-/// Where and how a history fails; the format it starts from is call 0.
+/// Where and how a history fails.
 #[derive(Clone, Debug, PartialEq, Eq)]
 pub struct Failure {
-    /// How many calls of the history were made, the failing one included.
+    /// How many of its calls were made, the failing one included; 0 if the
+    /// format it starts from fails.
     pub calls: usize,
     /// What is not as it should be.
     pub what: String,
@@ -140,8 +142,21 @@ pub fn follow(
     tables.used.fill(7);
     let mut map = Map::new(0);
     let format = history.shape.format();
-    for (calls, call) in std::iter::once(&format).chain(&history.calls).enumerate() {
+    let start = follow_call(&mut map, &mut tables, &format, &mut run);
+    start.map_err(|what| Failure { calls: 0, what })?;
+    follow_from(tables, map, &history.calls, run)
+}
+
+/// Follows calls from sound tables, whose held keys are the map's.
+pub fn follow_from(
+    mut tables: Tables,
+    mut map: Map,
+    calls: &[Call],
+    mut run: impl FnMut(&mut Tables, &Call) -> Outcome,
+) -> Result<Tables, Failure> {
+    for (before, call) in calls.iter().enumerate() {
         let step = follow_call(&mut map, &mut tables, call, &mut run);
+        let calls = before + 1;
         step.map_err(|what| Failure { calls, what })?;
     }
     Ok(tables)
@@ -162,7 +177,8 @@ fn follow_call(
     if !changes(&outcome, call) && *tables != before {
         return Err(format!("{call:?} changed the tables"));
     }
-    claims(tables.lent(), map.width as usize, &map.held)
+    claims(tables.lent(), map.width as usize, &map.held)?;
+    sound(tables.lent()).map_err(|rule| format!("not sound: {rule}"))
 }
 
 /// Whether the call may change the tables: a done format, on or off.

@@ -1,10 +1,10 @@
 //! Random histories.
 
-use super::keys::{key, Spread, SPREADS};
+use super::keys::{key, largest_key, Spread, SPREADS};
 use super::Random;
 use crate::history::{Call, History, Shape};
+use crate::leaf_list::Herd;
 use crate::table::{HEADER_BYTES, LAYOUT};
-use std::collections::BTreeMap;
 
 /// A shape small enough that pages, levels and records run out now and then.
 pub fn small_shape(random: &mut Random) -> Shape {
@@ -33,15 +33,20 @@ pub fn small_shape(random: &mut Random) -> Shape {
 }
 
 /// A history of so many calls on tables of this shape.
-pub fn history(random: &mut Random, shape: Shape, calls: usize) -> History {
+pub fn history(random: &mut Random, shape: Shape, count: usize) -> History {
+    let calls = calls(random, shape, &Herd::new(), count);
+    History { shape, calls }
+}
+
+/// So many calls on tables of this shape, where this herd is held at first.
+pub fn calls(random: &mut Random, shape: Shape, herd: &Herd, count: usize) -> Vec<Call> {
     let mut yard = Yard {
         shape,
         spread: *random.pick(&SPREADS),
         on_percent: 50,
-        held: BTreeMap::new(),
+        held: herd.clone(),
     };
-    let calls = (0..calls).map(|_| yard.call(random)).collect();
-    History { shape, calls }
+    (0..count).map(|_| yard.call(random)).collect()
 }
 
 /// What the writer of a history believes of the tables. It does not know which
@@ -50,7 +55,7 @@ struct Yard {
     shape: Shape,
     spread: Spread,
     on_percent: usize,
-    held: BTreeMap<u64, u64>,
+    held: Herd,
 }
 
 impl Yard {
@@ -73,7 +78,7 @@ impl Yard {
     fn on(&mut self, random: &mut Random) -> Call {
         let key = self.some_key(random);
         let records = self.shape.records as u64;
-        let taken: Vec<u64> = self.held.values().copied().collect();
+        let taken: Vec<u64> = self.held.values().map(|&record| record.into()).collect();
         let free: Vec<u64> = (0..records)
             .filter(|record| !taken.contains(record))
             .collect();
@@ -85,7 +90,7 @@ impl Yard {
             _ => *random.pick(&free),
         };
         if record < records {
-            self.held.entry(key).or_insert(record);
+            self.held.entry(key).or_insert(record as u32);
         }
         Call::On(key, record)
     }
@@ -102,7 +107,7 @@ impl Yard {
             ends.sort_unstable();
         }
         if random.percent(20) {
-            ends = [0, super::keys::largest_key(self.shape.width)];
+            ends = [0, largest_key(self.shape.width)];
         }
         let length = random.below(self.shape.records + 3);
         let slice = (0..length).map(|_| random.number() as u32).collect();
