@@ -23,6 +23,16 @@ fn renumbered(random: &mut Random, tables: &Tables) -> Tables {
     Tables::of(&index)
 }
 
+/// Whether two sound tables differ at most in their page numbers.
+fn same_but_for_numbers(one: &Tables, other: &Tables) -> bool {
+    let bare = |tables: &Tables| {
+        let mut index = read(tables.lent());
+        index.root = index.root.without_numbers();
+        index
+    };
+    bare(one) == bare(other)
+}
+
 /// Damage to sound tables makes a difference, unless it only moves pages.
 #[test]
 fn page_numbers_make_no_difference_and_damage_does() {
@@ -36,8 +46,7 @@ fn page_numbers_make_no_difference_and_damage_does() {
             let Some(hurt) = damaged(&mut random, &other, damage) else {
                 continue;
             };
-            let moved = sound(hurt.lent()).is_ok()
-                && (&hurt.keys, hurt.index[0]) == (&tables.keys, tables.index[0]);
+            let moved = sound(hurt.lent()).is_ok() && same_but_for_numbers(&tables, &hurt);
             let one = compare(tables.lent(), hurt.lent());
             let two = compare(hurt.lent(), tables.lent());
             assert!(

@@ -74,9 +74,10 @@ fn sound_tables_of_any_borders_are_accepted() {
 
 #[test]
 fn damaged_tables_are_refused_unless_the_damage_leaves_a_sound_table() {
-    // Another W may suit a small herd, another key the same leaf list, and two
-    // pages that hold the same dummy may change places.
+    // Another W may suit a small herd, another key the same leaf list, two pages
+    // that hold the same dummy may change places, and other borders may be good.
     let may_stay_sound = [
+        Damage::Borders,
         Damage::AnyByte,
         Damage::HeaderByte,
         Damage::KeyAltered,
@@ -181,6 +182,32 @@ fn free_records_at_the_end_of_the_register_keep_tables_sound() {
         tables.keys.push(0);
         tables.used.push(0);
         assert!(!checked(&tables), "65,535 records");
+    }
+}
+
+#[test]
+fn the_limits_of_the_header() {
+    let limits = [
+        (1, 1, false),
+        (2, 1, true),
+        (255, 1, true),
+        (2, 65_534, true),
+        (2, 65_535, false),
+    ];
+    for (entries, pages, accepted) in limits {
+        for width in [0, 1, 64, 65] {
+            let mut index = Index::empty(width, entries, pages, 1);
+            let in_limits = accepted && (1..=64).contains(&width);
+            assert_eq!(
+                checked(&Tables::of(&index)),
+                in_limits,
+                "E {entries} P {pages}"
+            );
+            if in_limits {
+                index.on(0, 0).expect("one key");
+                assert!(checked(&Tables::of(&index)), "E {entries} P {pages}");
+            }
+        }
     }
 }
 

@@ -1,11 +1,12 @@
 //! Damaged tables.
 
 use super::keys::largest_key;
-use super::Random;
-use crate::table::{
-    header, held_end, number, page_bytes, store, stored_page, Header, StoredPage, Tables,
-    HEADER_BYTES, LAYOUT,
+use super::places::{
+    depth_at, page_at, page_start, pages_in_use, places, pointer, records, set_depth, set_pointer,
 };
+use super::sound_tables::{number_pages, tree, Borders};
+use super::Random;
+use crate::table::{header, held_end, number, read, store, Header, Tables, HEADER_BYTES, LAYOUT};
 
 /// A kind of damage to sound tables.
 #[derive(Clone, Copy, Debug, PartialEq, Eq)]
@@ -50,12 +51,15 @@ pub enum Damage {
     StrayInUnusedEntry,
     /// A root of one entry above the root.
     LoneRoot,
+    /// Other borders on every level, the last depth of a page not always below
+    /// all others.
+    Borders,
     /// A table too long or too short.
     Length,
 }
 
 /// All kinds of damage.
-pub const DAMAGES: [Damage; 21] = [
+pub const DAMAGES: [Damage; 22] = [
     Damage::AnyByte,
     Damage::HeaderByte,
     Damage::HeldOff,
@@ -76,11 +80,9 @@ pub const DAMAGES: [Damage; 21] = [
     Damage::StrayInFreePage,
     Damage::StrayInUnusedEntry,
     Damage::LoneRoot,
+    Damage::Borders,
     Damage::Length,
 ];
-
-/// An entry of a page: the page's number and the entry's place in it.
-type Place = (u32, usize);
 
 /// Sound tables with this damage, or nothing if they offer no place for it.
 pub fn damaged(random: &mut Random, tables: &Tables, damage: Damage) -> Option<Tables> {
@@ -100,6 +102,7 @@ pub fn damaged(random: &mut Random, tables: &Tables, damage: Damage) -> Option<T
         }
         Damage::StrayInFreePage | Damage::StrayInUnusedEntry => stray(random, &mut hurt, damage),
         Damage::LoneRoot => lone_root(&mut hurt),
+        Damage::Borders => other_borders(random, &mut hurt),
         Damage::Length => length(random, &mut hurt),
     };
     done.filter(|()| hurt != *tables).map(|()| hurt)
@@ -295,6 +298,18 @@ fn lone_root(tables: &mut Tables) -> Option<()> {
     Some(())
 }
 
+fn other_borders(random: &mut Random, tables: &mut Tables) -> Option<()> {
+    let mut index = read(tables.lent());
+    let leaves = index.root.leaves();
+    index.root = tree(random, leaves, index.most_entries, Borders::Any)?;
+    if index.root.pages().len() > index.most_pages {
+        return None;
+    }
+    number_pages(random, &mut index.root, index.most_pages);
+    *tables = Tables::of(&index);
+    Some(())
+}
+
 fn length(random: &mut Random, tables: &mut Tables) -> Option<()> {
     let page = LAYOUT.page_bytes(header(&tables.index).entries);
     match random.below(9) {
@@ -312,63 +327,4 @@ fn length(random: &mut Random, tables: &mut Tables) -> Option<()> {
         }
     }
     Some(())
-}
-
-fn page_start(tables: &Tables, page: u32) -> usize {
-    HEADER_BYTES + page as usize * LAYOUT.page_bytes(header(&tables.index).entries)
-}
-
-fn entry_start(tables: &Tables, (page, entry): Place) -> usize {
-    page_start(tables, page) + LAYOUT.head_bytes + entry * LAYOUT.entry_bytes()
-}
-
-fn page_at(tables: &Tables, page: u32) -> StoredPage {
-    stored_page(&tables.index, page)
-}
-
-fn depth_at(tables: &Tables, place: Place) -> u8 {
-    tables.index[entry_start(tables, place)]
-}
-
-fn set_depth(tables: &mut Tables, place: Place, depth: u8) {
-    let start = entry_start(tables, place);
-    tables.index[start] = depth;
-}
-
-fn pointer(tables: &Tables, place: Place) -> u32 {
-    let start = entry_start(tables, place);
-    number(&tables.index[start + 1..start + LAYOUT.entry_bytes()])
-}
-
-fn set_pointer(tables: &mut Tables, place: Place, pointer: u32) {
-    let start = entry_start(tables, place);
-    store(
-        pointer,
-        &mut tables.index[start + 1..start + LAYOUT.entry_bytes()],
-    );
-}
-
-fn pages_in_use(tables: &Tables) -> Vec<u32> {
-    let pages = header(&tables.index).pages as u32;
-    (0..pages)
-        .filter(|&page| page_bytes(&tables.index, page)[1] != 0)
-        .collect()
-}
-
-/// The entries in use of the pages asked for.
-fn places(tables: &Tables, wanted: impl Fn(&StoredPage) -> bool) -> Vec<Place> {
-    let pages = pages_in_use(tables)
-        .into_iter()
-        .map(|page| (page, page_at(tables, page)));
-    let wanted = pages.filter(|(_, stored)| wanted(stored));
-    wanted
-        .flat_map(|(page, stored)| (0..stored.count).map(move |entry| (page, entry)))
-        .collect()
-}
-
-/// The records with this byte.
-fn records(tables: &Tables, byte: u8) -> Vec<usize> {
-    (0..tables.used.len())
-        .filter(|&record| tables.used[record] == byte)
-        .collect()
 }

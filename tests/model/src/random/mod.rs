@@ -5,6 +5,7 @@ pub mod damage;
 pub mod day_books;
 pub mod histories;
 pub mod keys;
+pub mod places;
 pub mod sound_tables;
 
 /// A generator of random numbers (splitmix64). The same seed gives the same

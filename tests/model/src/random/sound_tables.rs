@@ -9,6 +9,15 @@ use crate::index::{Index, HIGHEST_ROOT_LEVEL};
 use crate::leaf_list::{leaf_list, Entry, Herd};
 use crate::pages::{Page, Row};
 
+/// Which borders may be drawn between pages.
+#[derive(Clone, Copy, Debug, PartialEq, Eq)]
+pub enum Borders {
+    /// Those that keep the last depth of each page below all others.
+    Sound,
+    /// Any.
+    Any,
+}
+
 /// A sound index with random borders and page numbers.
 pub fn sound_index(
     random: &mut Random,
@@ -20,8 +29,11 @@ pub fn sound_index(
     let mut size = random.below(records + 1);
     loop {
         let herd = herd(random, width, spread, size, records);
-        if let Some(mut root) = tree(random, leaf_list(width, &herd), most_entries) {
-            let most_pages = number_pages(random, &mut root);
+        let leaves = leaf_list(width, &herd);
+        if let Some(mut root) = tree(random, leaves, most_entries, Borders::Sound) {
+            let spare = *random.pick(&[0, 1, 2, 60]);
+            let most_pages = root.pages().len() + spare;
+            number_pages(random, &mut root, most_pages);
             let register = register(&herd, records);
             return Index {
                 width,
@@ -45,8 +57,13 @@ fn register(herd: &Herd, records: usize) -> Vec<Option<u64>> {
 }
 
 /// Pages over the leaf list, or nothing if the root would stand too high.
-fn tree(random: &mut Random, leaves: Vec<Entry>, most: usize) -> Option<Page> {
-    let rows = draw_borders(random, leaves, |entry| entry.depth, most);
+pub fn tree(
+    random: &mut Random,
+    leaves: Vec<Entry>,
+    most: usize,
+    borders: Borders,
+) -> Option<Page> {
+    let rows = draw(random, leaves, |entry| entry.depth, most, borders);
     let mut pages: Vec<Page> = rows.into_iter().map(|row| page(Row::Leaves(row))).collect();
     let mut level = 0;
     while pages.len() > 1 {
@@ -54,7 +71,7 @@ fn tree(random: &mut Random, leaves: Vec<Entry>, most: usize) -> Option<Page> {
         if level > HIGHEST_ROOT_LEVEL {
             return None;
         }
-        let rows = draw_borders(random, pages, Page::last_depth, most);
+        let rows = draw(random, pages, Page::last_depth, most, borders);
         pages = rows
             .into_iter()
             .map(|row| page(Row::Children(row)))
@@ -67,19 +84,21 @@ fn page(row: Row) -> Page {
     Page { number: None, row }
 }
 
-/// Parts the row into pages of 1 to `most` entries, the last below all others.
-fn draw_borders<T>(
+/// Parts the row into pages of 1 to `most` entries.
+fn draw<T>(
     random: &mut Random,
     row: Vec<T>,
     depth: fn(&T) -> usize,
     most: usize,
+    borders: Borders,
 ) -> Vec<Vec<T>> {
     let mut rest = row;
     let mut parts = Vec::new();
     while !rest.is_empty() {
         let depths: Vec<usize> = rest.iter().take(most).map(depth).collect();
-        let below = |&end: &usize| depths[..end].iter().all(|&before| depths[end] < before);
-        let ends: Vec<usize> = (0..depths.len()).filter(below).collect();
+        let below = |end: usize| depths[..end].iter().all(|&before| depths[end] < before);
+        let may_end = |&end: &usize| borders == Borders::Any || below(end);
+        let ends: Vec<usize> = (0..depths.len()).filter(may_end).collect();
         let longest = ends[ends.len() - 1];
         let end = if random.percent(40) {
             longest
@@ -92,16 +111,9 @@ fn draw_borders<T>(
     parts
 }
 
-/// Gives the pages random numbers below a random P, which is given back.
-fn number_pages(random: &mut Random, root: &mut Page) -> usize {
-    let spare = if random.percent(50) {
-        random.below(3)
-    } else {
-        random.below(100)
-    };
-    let most_pages = root.pages().len() + spare;
+/// Gives the pages random numbers below P.
+pub fn number_pages(random: &mut Random, root: &mut Page, most_pages: usize) {
     let mut numbers: Vec<u32> = (0..most_pages as u32).collect();
     random.shuffle(&mut numbers);
     root.number_new(&mut numbers.into_iter());
-    most_pages
 }
