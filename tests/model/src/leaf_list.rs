@@ -7,7 +7,7 @@ use std::collections::BTreeMap;
 pub type Herd = BTreeMap<u64, u32>;
 
 /// A leaf: the depth of its bounding node, and its record or NIL (a dummy).
-#[derive(Clone, Copy, Debug, PartialEq, Eq)]
+#[derive(Clone, Copy, Debug, PartialEq, Eq, Hash)]
 pub struct Entry {
     /// Length of the bounding node's bit string, 0 for the closing bound.
     pub depth: usize,

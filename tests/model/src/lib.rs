@@ -6,12 +6,17 @@
 pub mod answer;
 pub mod bits;
 pub mod calls;
+pub mod claims;
+pub mod compare;
 pub mod day_book;
+pub mod history;
 pub mod index;
 pub mod leaf_list;
 pub mod map;
 pub mod pages;
+pub mod random;
 pub mod search;
+pub mod shrink;
 pub mod sound;
 pub mod table;
 pub mod tag_code;

@@ -8,7 +8,7 @@ use crate::leaf_list::Entry;
 use crate::search::{figure_6, Change};
 
 /// A page in use.
-#[derive(Clone, Debug, PartialEq, Eq)]
+#[derive(Clone, Debug, PartialEq, Eq, Hash)]
 pub struct Page {
     /// The page's number; a page made by the present call has none yet.
     pub number: Option<u32>,
@@ -17,7 +17,7 @@ pub struct Page {
 }
 
 /// The entries of a page: leaves on level 0, child pages above it.
-#[derive(Clone, Debug, PartialEq, Eq)]
+#[derive(Clone, Debug, PartialEq, Eq, Hash)]
 pub enum Row {
     /// Entries of level 0.
     Leaves(Vec<Entry>),
@@ -75,6 +75,17 @@ impl Page {
             Row::Leaves(leaves) => leaves[j],
             Row::Children(children) => children[j].walk(positions, k),
         }
+    }
+
+    /// The same pages, their numbers aside.
+    pub fn without_numbers(&self) -> Page {
+        let row = match &self.row {
+            Row::Leaves(leaves) => Row::Leaves(leaves.clone()),
+            Row::Children(children) => {
+                Row::Children(children.iter().map(Page::without_numbers).collect())
+            }
+        };
+        Page { number: None, row }
     }
 
     /// Gives each page that has no number the next one.

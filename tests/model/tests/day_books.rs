@@ -1,6 +1,15 @@
 //! The day-book program, byte for byte.
 
-use model::day_book::run;
+mod common;
+
+use common::seeds;
+use model::answer::Answer;
+use model::day_book::{run, DayBook};
+use model::index::Room;
+use model::map::{Lengths, Map};
+use model::random::day_books::day_book;
+use model::random::Random;
+use std::collections::BTreeSet;
 
 fn printed(input: &str) -> String {
     String::from_utf8(run(input.as_bytes())).expect("plain text")
@@ -134,4 +143,106 @@ fn a_list_prints_at_most_32_records() {
     assert_eq!(fields(lists[32]), 2 + 32 + 1);
     assert!(lists[32].starts_with("66\t0\t32\t31\t") && lists[32].ends_with("\t2\t1\t+"));
     assert_eq!(answer("list\t826000000000001\t826000000000000"), "0");
+}
+
+#[test]
+fn random_day_books_follow_the_map() {
+    for seed in seeds(20) {
+        let mut random = Random::new(seed);
+        let mut map = Map::new(64);
+        let mut book = DayBook::new();
+        for line in 1..=800u64 {
+            let [a, b] = [0, 1].map(|_| random.below(400) as u64);
+            let record = random.below(300) as u64;
+            let (text, answer, records) = match random.below(10) {
+                0..=4 => (
+                    format!("on\t826{a:012}\t{record}"),
+                    map.on(LENGTHS, code(a), record, || ROOM),
+                    vec![],
+                ),
+                5 | 6 => (format!("off\t826{a:012}"), map.off(code(a)), vec![]),
+                7 | 8 => {
+                    let answer = map.find(code(a));
+                    (
+                        format!("find\th{:016x}", code(a)),
+                        answer,
+                        vec![answer.record],
+                    )
+                }
+                _ => {
+                    let mut slice = vec![0; 32];
+                    let answer = map.list(code(a), code(b), &mut slice);
+                    slice.truncate(answer.count as usize);
+                    (format!("list\t826{a:012}\t826{b:012}"), answer, slice)
+                }
+            };
+            let expected = expected_line(line, answer, &records);
+            assert_eq!(book.line(text.as_bytes()), expected, "seed {seed}, {text}");
+        }
+    }
+}
+
+/// The register of the day book, and a tree that never fills.
+const LENGTHS: Lengths = Lengths {
+    index: 0,
+    keys: 4096,
+    used: 4096,
+};
+const ROOM: Room = Room {
+    row_8: false,
+    row_7: false,
+};
+
+/// The code of the tag 826 with this national number.
+fn code(national: u64) -> u64 {
+    (1 << 63) + (826 << 38) + national
+}
+
+fn expected_line(line: u64, answer: Answer, records: &[u32]) -> String {
+    let mut expected = format!("{line}\t{}", answer.number);
+    if answer.number == 0 {
+        expected.extend(records.iter().map(|record| format!("\t{record}")));
+    }
+    if answer.more {
+        expected += "\t+";
+    }
+    expected
+}
+
+#[test]
+fn every_line_of_a_random_book_is_answered() {
+    let mut answers = BTreeSet::new();
+    for seed in seeds(10) {
+        let book = day_book(&mut Random::new(seed), 600);
+        let output = String::from_utf8(run(&book)).expect("plain text");
+        assert!(output.ends_with('\n'));
+        assert_eq!(output.lines().count(), 600, "seed {seed}");
+        for (line, number) in output.lines().zip(1..) {
+            let mut fields = line.split('\t');
+            assert_eq!(fields.next(), Some(number.to_string().as_str()));
+            answers.insert(fields.next().expect("an answer").to_string());
+        }
+    }
+    let expected = ["0", "10", "11", "3", "4", "5", "6"];
+    assert_eq!(
+        answers.iter().map(String::as_str).collect::<Vec<_>>(),
+        expected
+    );
+}
+
+#[test]
+fn a_day_book_can_run_out_of_pages() {
+    // Two neighbours under a stem of their own have a dummy for most bits.
+    let mut book = DayBook::new();
+    let mut answers = BTreeSet::new();
+    for pair in 0..400u64 {
+        let stem = pair.wrapping_mul(0x9e37_79b9_7f4a_7c15) & 0xffff_0000_0000_0000;
+        for low in 0..2 {
+            let tag = stem | (0xf9ff_ffff_ffff - low);
+            let line = book.line(format!("on\th{tag:016x}\t{}", 2 * pair + low).as_bytes());
+            answers.insert(line.split('\t').nth(1).expect("an answer").to_string());
+        }
+    }
+    assert!(answers.contains("7"), "{answers:?}");
+    assert!(book.index().root.pages().len() <= 250);
 }

@@ -8,8 +8,10 @@ use model::table::Tables;
 
 const P4: [(u64, u32); 3] = [(0b1010_1010, 1), (0b1010_1100, 2), (0, 3)];
 
-/// Each small herd in the order its keys are put on, and its leaf list.
-fn small_herds() -> Vec<(&'static str, Vec<(u64, u32)>, &'static str)> {
+/// A small herd's name, its keys and records, and its leaf list.
+type SmallHerd = (&'static str, Vec<(u64, u32)>, &'static str);
+
+fn small_herds() -> Vec<SmallHerd> {
     let p3 = "(1,-)(3,-)(5,-)(6,1)(0,2)";
     let p9 = "(1,-)(2,-)(3,-)(4,-)(5,-)(6,-)(7,-)(8,1)(0,2)";
     let p10 = "(2,3)(1,4)(3,-)(5,-)(6,1)(0,2)";

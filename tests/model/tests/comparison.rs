@@ -1,0 +1,117 @@
+//! Comparison of tables up to page numbers, and the shortening of histories.
+
+mod common;
+
+use common::seeds;
+use model::compare::compare;
+use model::history::{call, follow, Call, Failure, History, Outcome, Shape};
+use model::random::damage::{damaged, DAMAGES};
+use model::random::histories::history;
+use model::random::sound_tables::sound_index;
+use model::random::Random;
+use model::shrink::shrink;
+use model::sound::sound;
+use model::table::{read, Tables};
+
+/// The tables with their pages in other places.
+fn renumbered(random: &mut Random, tables: &Tables) -> Tables {
+    let mut index = read(tables.lent());
+    let mut numbers: Vec<u32> = (0..index.most_pages as u32).collect();
+    random.shuffle(&mut numbers);
+    index.root = index.root.without_numbers();
+    index.root.number_new(&mut numbers.into_iter());
+    Tables::of(&index)
+}
+
+/// Whether two sound tables differ at most in their page numbers.
+fn same_but_for_numbers(one: &Tables, other: &Tables) -> bool {
+    let bare = |tables: &Tables| {
+        let mut index = read(tables.lent());
+        index.root = index.root.without_numbers();
+        index
+    };
+    bare(one) == bare(other)
+}
+
+/// Damage to sound tables makes a difference, unless it only moves pages.
+#[test]
+fn page_numbers_make_no_difference_and_damage_does() {
+    for seed in seeds(300) {
+        let mut random = Random::new(seed);
+        let width = random.between(1, 64);
+        let tables = Tables::of(&sound_index(&mut random, width, 3, 12));
+        let other = renumbered(&mut random, &tables);
+        assert_eq!(compare(tables.lent(), other.lent()), Ok(()), "seed {seed}");
+        for damage in DAMAGES {
+            let Some(hurt) = damaged(&mut random, &other, damage) else {
+                continue;
+            };
+            let moved = sound(hurt.lent()).is_ok() && same_but_for_numbers(&tables, &hurt);
+            let one = compare(tables.lent(), hurt.lent());
+            let two = compare(hurt.lent(), tables.lent());
+            assert!(
+                one.is_ok() == moved && two.is_ok() == moved,
+                "seed {seed} {damage:?}"
+            );
+        }
+    }
+}
+
+#[test]
+fn other_borders_make_a_difference() {
+    let mut differ = 0;
+    for seed in seeds(60) {
+        let mut random = Random::new(seed);
+        let (width, entries) = (random.between(6, 12), random.between(2, 4));
+        let one = Tables::of(&sound_index(&mut random, width, entries, 12));
+        let mut anew = one.clone();
+        let index = read(one.lent());
+        let numbers = [index.width, index.most_entries, index.most_pages];
+        let [w, e, p] = numbers.map(|number| number as u64);
+        call(&mut anew, &Call::Format(w, e, p));
+        for (key, record) in index.herd() {
+            call(&mut anew, &Call::On(key, u64::from(record)));
+        }
+        let other = read(anew.lent());
+        let same = other.root.without_numbers() == index.root.without_numbers();
+        let compared = compare(one.lent(), anew.lent());
+        assert_eq!(compared.is_ok(), same, "seed {seed} {compared:?}");
+        differ += usize::from(!same && other.register == index.register);
+    }
+    assert!(differ >= 10, "only {differ} differ in their borders alone");
+}
+
+/// The model, but an off of a key above 9 is forgotten.
+fn forgetful(tables: &mut Tables, made: &Call) -> Outcome {
+    let mut kept = tables.clone();
+    let outcome = call(tables, made);
+    if matches!(made, Call::Off(key) if *key > 9) {
+        std::mem::swap(tables, &mut kept);
+    }
+    outcome
+}
+
+#[test]
+fn a_failing_history_is_shortened_to_what_fails() {
+    let shape = Shape {
+        width: 8,
+        entries: 3,
+        pages: 60,
+        records: 9,
+    };
+    let attempt = |history: &History| follow(history, forgetful);
+    for seed in seeds(10) {
+        let history = history(&mut Random::new(seed), shape, 400);
+        let Err(failure) = attempt(&history) else {
+            panic!("seed {seed} forgets nothing");
+        };
+        let (shortest, failure): (History, Failure) = shrink(&history, failure, attempt);
+        assert!(attempt(&shortest).is_err());
+        let [.., Call::On(on, _), Call::Off(off)] = shortest.calls[..] else {
+            panic!("seed {seed}: {shortest:?}");
+        };
+        assert!(on == off && off > 9, "seed {seed}: {shortest:?}");
+        assert_eq!(failure.calls, shortest.calls.len());
+        assert!(shortest.calls.len() <= 3, "seed {seed}: {shortest:?}");
+    }
+}
