@@ -14,8 +14,9 @@ use Rattle.leaf_list.specs.LeafList.{items, item}
 use Rattle.leaf_list.specs.Trie.{Trie, leaf, zero-only, one-only, fork, trieList, writeAll, write, trieOf}
 use Rattle.leaf_list.proofs.Bits.{below-value, bits-length, value-bits}
 use Rattle.leaf_list.proofs.Tries.{KeysIn, Pruned, Sized, Given}
+use Rattle.leaf_list.proofs.Items.{Least, Ordered}
 use Rattle.leaf_list.proofs.TrieOf.{trieOf-nil, trieOf-pruned, trieOf-sized, trieOf-keys}
-use Rattle.leaf_list.proofs.LiveRecords.{trieRecords, Least, Ordered, liveRecords-write, optionRecords, trieOf-records}
+use Rattle.leaf_list.proofs.LiveRecords.{trieRecords, liveRecords-write, optionRecords, trieOf-records}
 use Rattle.leaf_list.proofs.HerdItems.{items-lengths, items-keys, items-ordered, records-herd}
 use Rattle.leaf_list.proofs.Fitting.{RecordsFit, NodeRead, ClosedBy, Opens, Fitting, read-node, fitting-node, leafMeets}
 use Rattle.leaf_list.proofs.Leaves.{leaves, trieOf-leaves, ordered-leaves}

@@ -16,10 +16,10 @@ use Rattle.leaf_list.specs.Search.{search, positions}
 use Rattle.leaf_list.specs.Insertion.{leafDepth, trailing}
 use Rattle.leaf_list.proofs.Bits.{bits-length}
 use Rattle.leaf_list.proofs.Paths.{Differ, firstDifference-path, firstDifference-above}
-use Rattle.leaf_list.proofs.Tries.{Branching, Pruned, KeysIn, lastRecord, lastBits, key-of-last, NotHeld, Given, notHeld-reaches}
+use Rattle.leaf_list.proofs.Tries.{Branching, Pruned, KeysIn, lastRecord, lastBits, key-of-last, NotHeld, Given, Reaches}
 use Rattle.leaf_list.proofs.Places.{passFront, trailing-front, passed, remaining, stops-shallow, search-node}
 use Rattle.leaf_list.proofs.TrieInsertion.{leafDepth-max, DepthRule, depthRule-branching, depthRule}
-use Rattle.leaf_list.proofs.TrieOf.{trieOf-notHeld, trieOf-pruned, trieOf-keys}
+use Rattle.leaf_list.proofs.TrieOf.{trieOf-reaches, trieOf-notHeld, trieOf-pruned, trieOf-keys}
 use Rattle.leaf_list.proofs.HerdLaws.{lookup-absent}
 use Rattle.leaf_list.proofs.HerdItems.{items-lengths, items-noKey, items-keys}
 
@@ -89,17 +89,17 @@ module _ (keyOf : ℕ → Key) where
       (depthRule b (suc (length u)) c (suc (length u)) (omega arith))
 
   -- The entry found in a whole trie.
-  pub other-trie : (o : Option Trie) (k : Key) → Given (NotHeld k) o → Given Pruned o → Given (KeysIn keyOf []) o
+  pub other-trie : (o : Option Trie) (k : Key) → Given (Reaches k) o → Given (NotHeld k) o → Given Pruned o → Given (KeysIn keyOf []) o
       → FoundOther keyOf k (trailing (search [] (positions 0 k) (writeAll o) .0)) (search [] (positions 0 k) (writeAll o) .1)
-  other-trie none k f g q = rw (stops-shallow k 0 0 none [] [] (omega arith)) tt
-  other-trie (some t) k f g q =
-      rw (search-node t k 0 0 [] [] (notHeld-reaches t k f) (omega arith))
+  other-trie none k y f g q = rw (stops-shallow k 0 0 none [] [] (omega arith)) tt
+  other-trie (some t) k y f g q =
+      rw (search-node t k 0 0 [] [] y (omega arith))
       (other-node t [] k 0 [] [] f g q (omega arith) (omega arith) (depthRule t 0 0 0 refl))
 
 -- The entry found in the entries of a herd, for a key that it does not hold.
 pub found-trieList : (keyOf : ℕ → ℕ) (w k : ℕ) (s : Herd) → k < 2 ^ w → Narrow w s → KeysOf keyOf s → lookup k s ≡ none
     → FoundOther (λ r. bits w (keyOf r)) (bits w k) (trailing (search [] (positions 0 (bits w k)) (trieList w s) .0)) (search [] (positions 0 (bits w k)) (trieList w s) .1)
 found-trieList keyOf w k s h q g e =
-    other-trie (λ r. bits w (keyOf r)) (trieOf w (items w s)) (bits w k)
+    other-trie (λ r. bits w (keyOf r)) (trieOf w (items w s)) (bits w k) (trieOf-reaches w (bits w k) (items w s) (bits-length w k) (items-lengths w s))
     (trieOf-notHeld w (bits w k) (items w s) (bits-length w k) (items-lengths w s) (items-noKey w k s h q (lookup-absent k s e))) (trieOf-pruned w (items w s))
     (trieOf-keys (λ r. bits w (keyOf r)) w [] (items w s) (items-keys w keyOf s g))

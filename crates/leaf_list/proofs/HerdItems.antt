@@ -17,11 +17,11 @@ use Rattle.leaf_list.specs.Search.{find}
 use Rattle.leaf_list.specs.Insertion.{insertion}
 use Rattle.leaf_list.specs.Deletion.{deletion}
 use Rattle.leaf_list.proofs.Bits.{bits-length, sameKey-bits, below-value, value-bits}
-use Rattle.leaf_list.proofs.TrieOf.{Lengths, NoKey, ItemKeys, Distinct}
+use Rattle.leaf_list.proofs.Items.{Lengths, NoKey, ItemKeys, Least, Ordered, Distinct}
 use Rattle.leaf_list.proofs.TrieChange.{With, here, there}
 use Rattle.leaf_list.proofs.ItemLaws.{insertion-items, deletion-items, find-missing, find-held}
 use Rattle.leaf_list.proofs.HerdLaws.{above-absent, lookup-absent, narrow-remove, absent-remove, lookup-key}
-use Rattle.leaf_list.proofs.LiveRecords.{Least, Ordered, itemRecords, liveRecords-items}
+use Rattle.leaf_list.proofs.LiveRecords.{itemRecords, liveRecords-items}
 
 -- Each key has w bits.
 pub items-lengths : (w : ℕ) (s : Herd) → Lengths w (items w s)
@@ -90,7 +90,7 @@ insertion-trieList keyOf w k r s h q g e =
 pub deletion-trieList : (w k r : ℕ) (s : Herd) → k < 2 ^ w → Narrow w s → Sorted s → lookup k s ≡ some r
     → deletion (bits w k) (trieList w s) ≡ trieList w (remove k s)
 deletion-trieList w k r s h q o e =
-    deletion-items w (bits w k) r (items w (remove k s)) (items w s) (items-remove w k r s e) (bits-length w k) (items-lengths w (remove k s))
+    deletion-items w (bits w k) r (items w (remove k s)) (items w s) (items-remove w k r s e) (bits-length w k) (items-lengths w (remove k s)) (items-lengths w s)
     (items-noKey w k (remove k s) h (narrow-remove w k s q) (absent-remove k s o))
 
 -- Search finds what the herd holds.
@@ -101,7 +101,7 @@ find-trieList keyOf w k s h q o g = go (lookup k s) refl
     go : (a : Option ℕ) → lookup k s ≡ a → find (λ x. bits w (keyOf x)) (bits w k) (trieList w s) ≡ a
     go none e = find-missing (λ x. bits w (keyOf x)) w (bits w k) (items w s) (bits-length w k) (items-lengths w s) (items-noKey w k s h q (lookup-absent k s e)) (items-keys w keyOf s g)
     go (some r) e =
-        find-held (λ x. bits w (keyOf x)) w (bits w k) r (items w (remove k s)) (items w s) (items-remove w k r s e) (bits-length w k) (items-lengths w (remove k s))
+        find-held (λ x. bits w (keyOf x)) w (bits w k) r (items w (remove k s)) (items w s) (items-remove w k r s e) (bits-length w k) (items-lengths w (remove k s)) (items-lengths w s)
         (items-noKey w k (remove k s) h (narrow-remove w k s q) (absent-remove k s o)) (ap (bits w) (lookup-key keyOf k r s e g))
 
 -- The records of a herd's list are the herd's.

@@ -10,7 +10,7 @@ use Rattle.leaf_list.specs.Entries.{Entry, entry}
 use Rattle.leaf_list.specs.LeafList.{Item, recordBetween, item, recordFrom}
 use Rattle.leaf_list.specs.Trie.{zeroSide, oneSide}
 use Rattle.leaf_list.proofs.Bits.{below-zeroBits, setBit-length}
-use Rattle.leaf_list.proofs.TrieOf.{Lengths}
+use Rattle.leaf_list.proofs.Items.{Lengths}
 
 -- Between two bounds that begin with 0.
 pub between-zero : (lo hi : Key) (s : List Item) → recordBetween (false ∷ lo) (false ∷ hi) s ≡ recordBetween lo hi (zeroSide s)

@@ -10,8 +10,8 @@ use Rattle.leaf_list.specs.Keys.{Key, below}
 use Rattle.leaf_list.specs.LeafList.{Item, item}
 use Rattle.leaf_list.specs.Trie.{Trie, leaf, zero-only, one-only, fork, zeroSide, oneSide, trieOf, join}
 use Rattle.leaf_list.proofs.Tries.{Sized, Pruned, underZero-branching, underOne-branching}
+use Rattle.leaf_list.proofs.Items.{Least, Ordered}
 use Rattle.leaf_list.proofs.TrieOf.{trieOf-nil, trieOf-suc}
-use Rattle.leaf_list.proofs.LiveRecords.{Least, Ordered}
 
 -- The keys of a trie with their records, in order, each after what f puts before it.
 abbrev pub leaves : (Key → Key) → Trie → List Item → List Item

@@ -1,9 +1,11 @@
+pub mod Lists
 pub mod Bits
 pub mod Paths
 pub mod Tries
 pub mod Places
 pub mod TrieInsertion
 pub mod TrieDeletion
+pub mod Items
 pub mod TrieOf
 pub mod TrieChange
 pub mod ItemLaws

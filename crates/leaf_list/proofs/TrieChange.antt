@@ -14,7 +14,8 @@ use Rattle.leaf_list.proofs.Paths.{Differ}
 use Rattle.leaf_list.proofs.Tries.{Branching, NotHeld, Given, underZero-branching, underOne-branching, Held, Pruned}
 use Rattle.leaf_list.proofs.TrieInsertion.{insertTrie, twoLeaves}
 use Rattle.leaf_list.proofs.TrieDeletion.{deleteTrie}
-use Rattle.leaf_list.proofs.TrieOf.{Lengths, NoKey, noKey-empty, trieOf-suc, lengths-zero, noKey-zero, trieOf-notHeld, lengths-one, noKey-one}
+use Rattle.leaf_list.proofs.Items.{Lengths, NoKey, noKey-empty, lengths-zero, noKey-zero, lengths-one, noKey-one}
+use Rattle.leaf_list.proofs.TrieOf.{trieOf-suc, trieOf-notHeld}
 
 -- s′ is s with x in it once more.
 pub data With (x : Item) : List Item → List Item → Type 0 where

@@ -99,33 +99,7 @@ abbrev pub Given : (Trie → Type 0) → Option Trie → Type 0
 Given P none = Unit {0}
 Given P (some t) = P t
 
--- A key that is not held has the bits that the way down asks for.
-pub notHeld-reaches : (t : Trie) (k : Key) → NotHeld k t → Reaches k t
-notHeld-reaches (leaf k′ r) k f = tt
-notHeld-reaches (zero-only t) [] f = f
-notHeld-reaches (zero-only t) (false ∷ k) f = notHeld-reaches t k f
-notHeld-reaches (zero-only t) (true ∷ k) f = tt
-notHeld-reaches (one-only t) [] f = f
-notHeld-reaches (one-only t) (false ∷ k) f = tt
-notHeld-reaches (one-only t) (true ∷ k) f = notHeld-reaches t k f
-notHeld-reaches (fork a b) [] f = f
-notHeld-reaches (fork a b) (false ∷ k) f = notHeld-reaches a k f
-notHeld-reaches (fork a b) (true ∷ k) f = notHeld-reaches b k f
-
--- So has a key that is held.
-pub held-reaches : (t : Trie) (k : Key) (r : ℕ) → Held k r t → Reaches k t
-held-reaches (leaf k′ r′) k r f = tt
-held-reaches (zero-only t) [] r f = f
-held-reaches (zero-only t) (false ∷ k) r f = held-reaches t k r f
-held-reaches (zero-only t) (true ∷ k) r f = tt
-held-reaches (one-only t) [] r f = f
-held-reaches (one-only t) (false ∷ k) r f = tt
-held-reaches (one-only t) (true ∷ k) r f = held-reaches t k r f
-held-reaches (fork a b) [] r f = f
-held-reaches (fork a b) (false ∷ k) r f = held-reaches a k r f
-held-reaches (fork a b) (true ∷ k) r f = held-reaches b k r f
-
--- So has a key of the trie's size.
+-- A key as long as those of the trie has the bits that the way down asks for.
 pub sized-reaches : (t : Trie) (n : ℕ) (k : Key) → Sized n t → length k ≡ n → Reaches k t
 sized-reaches (leaf k′ r) n k f h = tt
 sized-reaches (zero-only t) zero k f h = absurd f

@@ -13,7 +13,8 @@ use Rattle.leaf_list.specs.Trie.{Trie, write, trieOf, join, leaf, zero-o
 use Rattle.leaf_list.proofs.Bits.{zeroBits-length, below-zeroBits}
 use Rattle.leaf_list.proofs.Tries.{Branching, Given, NotHeld}
 use Rattle.leaf_list.proofs.TrieDeletion.{NonEmpty}
-use Rattle.leaf_list.proofs.TrieOf.{Lengths, Distinct, trieOf-notHeld, trieOf-suc, trieOf-nil, lengths-one, distinct-one, lengths-zero, distinct-zero}
+use Rattle.leaf_list.proofs.Items.{Lengths, Distinct, lengths-one, distinct-one, lengths-zero, distinct-zero}
+use Rattle.leaf_list.proofs.TrieOf.{trieOf-notHeld, trieOf-suc, trieOf-nil}
 use Rattle.leaf_list.proofs.TrieChange.{insertOption, trieOf-insert, here, insertTrie-branching}
 use Rattle.leaf_list.proofs.Stems.{boundingStems, boundingStems-suc, count-one, boundingStems-nil, boundingStem, count-zero, boundingStems-single, boundingStem-two, boundingStem-both}
 use Rattle.leaf_list.proofs.Intervals.{entriesAt, entriesAt-zero, entriesAt-middle, entriesAt-one, from-start}
