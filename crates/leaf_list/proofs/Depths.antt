@@ -1,14 +1,14 @@
 -- The depths of a written trie: those of a node but its last are deeper than the node. Assumes nothing.
 use mathlib.Core.Path.{_≡_, refl, ap, _∙_, sym}
 use mathlib.Core.Logic.{_≢_}
-use mathlib.Core.Bool.{true, Bool, true≢false, false}
+use mathlib.Core.Bool.{true, true≢false}
 use mathlib.Core.Option.{none, some, Option}
 use mathlib.Core.List.{List, [], _∷_, _++_, append-assoc}
 use Prim.Native.Nat.{ℕ, suc, _<_, _≤_, _+_, zero}
 use native.Mathlib.Omega.{arith}
 use Rattle.leaf_list.specs.Entries.{Entry, entry, depthOf, isNil, pointerOf}
 use Rattle.leaf_list.specs.Trie.{Trie, leaf, zero-only, one-only, fork, write, writeAll}
-use Rattle.leaf_list.proofs.Tries.{lastRecord, Sized, Given, Branching, Pruned}
+use Rattle.leaf_list.proofs.Tries.{lastRecord, Sized, Given, Pruned, AtLeaf, at-branching, at-leaf}
 
 -- The entries of a node but its last.
 abbrev pub frontOf : ℕ → Trie → List Entry
@@ -112,43 +112,19 @@ Neighbours (e ∷ f ∷ es) = Beside e f × Neighbours (f ∷ es)
 pub beside-deeper : (e f : Entry) → depthOf e < depthOf f → Beside e f
 beside-deeper e f h = record { differ = omega arith; after-dummy = λ i. h; before-dummy = λ i. h }
 
--- A leaf closed by c may follow an entry of depth τ; dummy says that the entry is one.
-abbrev pub MayFollow : Trie → ℕ → ℕ → Bool → Type 0
-MayFollow (leaf k r) τ c dummy = (τ ≢ c) × (dummy ≡ true → τ < c)
-MayFollow (zero-only t) τ c dummy = Unit {0}
-MayFollow (one-only t) τ c dummy = Unit {0}
-MayFollow (fork a b) τ c dummy = Unit {0}
-
--- It is kept.
-pub mayFollow : (t : Trie) (τ c : ℕ) (dummy : Bool) → τ ≢ c → (dummy ≡ true → τ < c) → MayFollow t τ c dummy
-mayFollow (leaf k r) τ c dummy h g = (h, g)
-mayFollow (zero-only t) τ c dummy h g = tt
-mayFollow (one-only t) τ c dummy h g = tt
-mayFollow (fork a b) τ c dummy h g = tt
-
--- It asks nothing of a node with two keys.
-pub mayFollow-branching : (t : Trie) (τ c : ℕ) (dummy : Bool) → Branching t → MayFollow t τ c dummy
-mayFollow-branching (leaf k r) τ c dummy m = absurd m
-mayFollow-branching (zero-only t) τ c dummy m = tt
-mayFollow-branching (one-only t) τ c dummy m = tt
-mayFollow-branching (fork a b) τ c dummy m = tt
-
 -- The neighbours in the entries of a node, after an entry of depth τ.
-pub neighbours-write : (t : Trie) (l c τ : ℕ) (p : Option ℕ) (rest : List Entry) → Pruned t → c ≤ l → τ ≤ l → MayFollow t τ c (isNil p)
+pub neighbours-write : (t : Trie) (l c τ : ℕ) (p : Option ℕ) (rest : List Entry) → Pruned t → c ≤ l → τ ≤ l → AtLeaf ((τ ≢ c) × (isNil p ≡ true → τ < c)) t
     → Neighbours (entry c (some (lastRecord t)) ∷ rest) → Neighbours (entry τ p ∷ write l t c rest)
 neighbours-write (leaf k r) l c τ p rest g hc hτ m n = (record { differ = m .0; after-dummy = m .1; before-dummy = λ i. absurd (true≢false (sym i)) }, n)
 neighbours-write (zero-only t) l c τ p rest g hc hτ m n =
-    neighbours-write t (suc l) c τ p rest (g .1) (omega arith) (omega arith) (mayFollow-branching t τ c (isNil p) (g .0)) n
+    neighbours-write t (suc l) c τ p rest (g .1) (omega arith) (omega arith) (at-branching _ t (g .0)) n
 neighbours-write (one-only t) l c τ p rest g hc hτ m n = (
   beside-deeper (entry τ p) (entry (suc l) none) (omega arith),
-  neighbours-write t (suc l) c (suc l) none rest (g .1) (omega arith) (omega arith) (mayFollow-branching t (suc l) c true (g .0)) n,
+  neighbours-write t (suc l) c (suc l) none rest (g .1) (omega arith) (omega arith) (at-branching _ t (g .0)) n,
 )
 neighbours-write (fork a b) l c τ p rest g hc hτ m n =
-    neighbours-write a (suc l) (suc l) τ p (write (suc l) b c rest) (g .0) (omega arith) (omega arith) (mayFollow a τ (suc l) (isNil p) (omega arith) (λ i. omega arith))
-    (neighbours-write b (suc l) c (suc l) (some (lastRecord a)) rest (g .1) hc′ (omega arith) (mayFollow b (suc l) c false (omega arith) (λ i. absurd (true≢false (sym i)))) n)
-  where
-    hc′ : c ≤ suc l
-    hc′ = omega arith
+    neighbours-write a (suc l) (suc l) τ p (write (suc l) b c rest) (g .0) (omega arith) (omega arith) (at-leaf _ a (omega arith, λ i. omega arith))
+    (neighbours-write b (suc l) c (suc l) (some (lastRecord a)) rest (g .1) (omega arith) (omega arith) (at-leaf _ b (omega arith, λ i. absurd (true≢false (sym i)))) n)
 
 -- The neighbours of a list without its first entry.
 pub neighbours-tail : (e : Entry) (es : List Entry) → Neighbours (e ∷ es) → Neighbours es

@@ -15,9 +15,9 @@ use Rattle.leaf_list.specs.Insertion.{insertion}
 use Rattle.leaf_list.specs.Deletion.{deleteAt, deletion}
 use Rattle.leaf_list.proofs.Bits.{sameKey-refl}
 use Rattle.leaf_list.proofs.Paths.{sameKey-path, differ-sameKey}
-use Rattle.leaf_list.proofs.Tries.{Given, Reaches, NotHeld, Pruned, KeysIn, Held, Branching, key-of-last, lastBits}
+use Rattle.leaf_list.proofs.Tries.{Given, Reaches, NotHeld, Pruned, KeysIn, at-leaf, Held, Branching, key-of-last, lastBits}
 use Rattle.leaf_list.proofs.Places.{stops-shallow, search-node, passed, remaining}
-use Rattle.leaf_list.proofs.TrieInsertion.{insert-node, depthRule, insertTrie}
+use Rattle.leaf_list.proofs.TrieInsertion.{insert-node, insertTrie}
 use Rattle.leaf_list.proofs.TrieDeletion.{deleteTrie, delete-node, writeLeft}
 use Rattle.leaf_list.proofs.Items.{Lengths, NoKey, ItemKeys}
 use Rattle.leaf_list.proofs.TrieOf.{trieOf-reaches, trieOf-notHeld, trieOf-pruned, trieOf-keys}
@@ -29,7 +29,7 @@ pub insertion-trie : (keyOf : ℕ → Key) (o : Option Trie) (k : Key) (r : ℕ)
 insertion-trie keyOf none k r y f g q = rw (stops-shallow k 0 0 none [] [] (omega arith))
 insertion-trie keyOf (some t) k r y f g q =
     rw (search-node t k 0 0 [] [] y (omega arith))
-    (insert-node keyOf t [] k r 0 [] [] f g q (omega arith) (omega arith) (depthRule t 0 0 0 refl))
+    (insert-node keyOf t [] k r 0 [] [] f g q (omega arith) (omega arith) (at-leaf _ t refl))
 
 -- Deletion at the found entry, from two keys or more.
 pub deletion-branching : (t : Trie) (k : Key) (r : ℕ) → Held k r t → Branching t → Pruned t → deleteAt (passed 0 t k []) (remaining 0 t k 0 []) ≡ writeAll (deleteTrie k t)

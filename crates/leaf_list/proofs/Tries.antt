@@ -64,12 +64,16 @@ Held [] r (fork a b) = ⊥
 Held (false ∷ k) r (fork a b) = Held k r a
 Held (true ∷ k) r (fork a b) = Held k r b
 
--- The records of the trie have the keys that it says; u is the path to it, its last bit first.
+-- P of every leaf's path, of the bits left of its key and of its record; u is the path to the trie, its last bit first.
+abbrev pub EachLeaf : (Key → Key → ℕ → Type 0) → Key → Trie → Type 0
+EachLeaf P u (leaf k r) = P u k r
+EachLeaf P u (zero-only t) = EachLeaf P (false ∷ u) t
+EachLeaf P u (one-only t) = EachLeaf P (true ∷ u) t
+EachLeaf P u (fork a b) = EachLeaf P (false ∷ u) a × EachLeaf P (true ∷ u) b
+
+-- The records of the trie have the keys that it says.
 abbrev pub KeysIn : (ℕ → Key) → Key → Trie → Type 0
-KeysIn keyOf u (leaf k r) = keyOf r ≡ reverseAux u k
-KeysIn keyOf u (zero-only t) = KeysIn keyOf (false ∷ u) t
-KeysIn keyOf u (one-only t) = KeysIn keyOf (true ∷ u) t
-KeysIn keyOf u (fork a b) = KeysIn keyOf (false ∷ u) a × KeysIn keyOf (true ∷ u) b
+KeysIn keyOf = EachLeaf (λ u k r. keyOf r ≡ reverseAux u k)
 
 -- Each key of the trie has n bits left.
 abbrev pub Sized : ℕ → Trie → Type 0
@@ -93,6 +97,27 @@ Reaches (true ∷ k) (one-only t) = Reaches k t
 Reaches [] (fork a b) = ⊥
 Reaches (false ∷ k) (fork a b) = Reaches k a
 Reaches (true ∷ k) (fork a b) = Reaches k b
+
+-- P, asked of a leaf only.
+abbrev pub AtLeaf : Type 0 → Trie → Type 0
+AtLeaf P (leaf k r) = P
+AtLeaf P (zero-only t) = Unit {0}
+AtLeaf P (one-only t) = Unit {0}
+AtLeaf P (fork a b) = Unit {0}
+
+-- Where P holds.
+pub at-leaf : (P : Type 0) (t : Trie) → P → AtLeaf P t
+at-leaf P (leaf k r) h = h
+at-leaf P (zero-only t) h = tt
+at-leaf P (one-only t) h = tt
+at-leaf P (fork a b) h = tt
+
+-- Where there is no leaf.
+pub at-branching : (P : Type 0) (t : Trie) → Branching t → AtLeaf P t
+at-branching P (leaf k r) m = absurd m
+at-branching P (zero-only t) m = tt
+at-branching P (one-only t) m = tt
+at-branching P (fork a b) m = tt
 
 -- A fact of the trie, if there is one.
 abbrev pub Given : (Trie → Type 0) → Option Trie → Type 0
