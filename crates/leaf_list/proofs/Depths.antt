@@ -8,6 +8,7 @@ use Prim.Native.Nat.{ℕ, suc, _<_, _≤_, _+_, zero}
 use native.Mathlib.Omega.{arith}
 use Rattle.leaf_list.specs.Entries.{Entry, entry, depthOf, isNil, pointerOf}
 use Rattle.leaf_list.specs.Trie.{Trie, leaf, zero-only, one-only, fork, write, writeAll}
+use Rattle.leaf_list.proofs.Lists.{All, all-weaker, all-append}
 use Rattle.leaf_list.proofs.Tries.{lastRecord, Sized, Given, Pruned, AtLeaf, at-branching, at-leaf}
 
 -- The entries of a node but its last.
@@ -19,18 +20,11 @@ frontOf l (fork a b) = frontOf (suc l) a ++ entry (suc l) (some (lastRecord a)) 
 
 -- Every entry is deeper than l.
 abbrev pub Deeper : ℕ → List Entry → Type 0
-Deeper l [] = Unit {0}
-Deeper l (entry d p ∷ es) = (l < d) × Deeper l es
-
--- Two lists in a row.
-pub deeper-append : (l : ℕ) (xs ys : List Entry) → Deeper l xs → Deeper l ys → Deeper l (xs ++ ys)
-deeper-append l [] ys h g = g
-deeper-append l (entry d p ∷ xs) ys h g = (h .0, deeper-append l xs ys (h .1) g)
+Deeper l = All (λ e. l < depthOf e)
 
 -- Deeper than less.
-pub deeper-less : (l : ℕ) (xs : List Entry) → Deeper (suc l) xs → Deeper l xs
-deeper-less l [] h = tt
-deeper-less l (entry d p ∷ xs) h = (omega (arith, h .0), deeper-less l xs (h .1))
+pub deeper-less : (l : ℕ) (es : List Entry) → Deeper (suc l) es → Deeper l es
+deeper-less l es h = all-weaker (λ e. suc l < depthOf e) (λ e. l < depthOf e) es (λ e g. omega arith) h
 
 -- The entries of a node are its front and the closing one.
 pub write-front : (t : Trie) (l c : ℕ) (rest : List Entry) → write l t c rest ≡ frontOf l t ++ entry c (some (lastRecord t)) ∷ rest
@@ -45,13 +39,12 @@ front-deeper (leaf k r) l = tt
 front-deeper (zero-only t) l = deeper-less l (frontOf (suc l) t) (front-deeper t (suc l))
 front-deeper (one-only t) l = (omega arith, deeper-less l (frontOf (suc l) t) (front-deeper t (suc l)))
 front-deeper (fork a b) l =
-    deeper-append l (frontOf (suc l) a) (entry (suc l) (some (lastRecord a)) ∷ frontOf (suc l) b) (deeper-less l (frontOf (suc l) a) (front-deeper a (suc l)))
+    all-append (λ e. l < depthOf e) (frontOf (suc l) a) (entry (suc l) (some (lastRecord a)) ∷ frontOf (suc l) b) (deeper-less l (frontOf (suc l) a) (front-deeper a (suc l)))
     (omega arith, deeper-less l (frontOf (suc l) b) (front-deeper b (suc l)))
 
 -- No depth is above w.
 abbrev pub DepthsWithin : ℕ → List Entry → Type 0
-DepthsWithin w [] = Unit {0}
-DepthsWithin w (entry d p ∷ es) = (d ≤ w) × DepthsWithin w es
+DepthsWithin w = All (λ e. depthOf e ≤ w)
 
 -- The depths of a node of n bits at depth l.
 pub depthsWithin-write : (t : Trie) (n w l c : ℕ) (rest : List Entry) → Sized n t → l + n ≤ w → c ≤ w → DepthsWithin w rest → DepthsWithin w (write l t c rest)

@@ -12,6 +12,7 @@ use Rattle.leaf_list.specs.Entries.{Entry, liveRecords, entry}
 use Rattle.leaf_list.specs.Herd.{Herd, Narrow, Above, Sorted, KeysOf, recordsOf}
 use Rattle.leaf_list.specs.LeafList.{items, item}
 use Rattle.leaf_list.specs.Trie.{Trie, leaf, zero-only, one-only, fork, trieList, writeAll, write, trieOf}
+use Rattle.leaf_list.proofs.Lists.{All}
 use Rattle.leaf_list.proofs.Bits.{below-value, bits-length, value-bits}
 use Rattle.leaf_list.proofs.Tries.{KeysIn, Pruned, Sized, Given, at-leaf}
 use Rattle.leaf_list.proofs.Items.{Least, Ordered}
@@ -28,8 +29,7 @@ herdWith keyOf (r ∷ rs) = (keyOf r, r) ∷ herdWith keyOf rs
 
 -- Every record is in use.
 abbrev pub AllInUse : (ℕ → Bool) → List ℕ → Type 0
-AllInUse used [] = Unit {0}
-AllInUse used (r ∷ rs) = (used r ≡ true) × AllInUse used rs
+AllInUse used = All (λ r. used r ≡ true)
 
 -- The key of a record, as w bits.
 abbrev pub bitsOf : ℕ → (ℕ → ℕ) → ℕ → Key

@@ -5,11 +5,11 @@ use Prim.Native.Nat.{ℕ, _<_, _≤_, suc}
 use native.Mathlib.Omega.{arith}
 use Rattle.leaf_list.specs.Keys.{Key}
 use Rattle.leaf_list.specs.Search.{positions}
+use Rattle.leaf_list.proofs.Lists.{All, all-weaker}
 
 -- All positions are past d.
 abbrev pub Beyond : ℕ → List ℕ → Type 0
-Beyond d [] = Unit {0}
-Beyond d (b ∷ bs) = (d < b) × Beyond d bs
+Beyond d = All (λ b. d < b)
 
 -- The positions rise.
 abbrev pub Rising : List ℕ → Type 0
@@ -18,8 +18,7 @@ Rising (b ∷ bs) = Beyond b bs × Rising bs
 
 -- Past more is past less.
 pub beyond-less : (d b : ℕ) (bs : List ℕ) → d ≤ b → Beyond b bs → Beyond d bs
-beyond-less d b [] h a = tt
-beyond-less d b (x ∷ bs) h a = (omega (arith, a .0), beyond-less d b bs h (a .1))
+beyond-less d b bs h a = all-weaker (λ x. b < x) (λ x. d < x) bs (λ x g. omega arith) a
 
 -- The positions of a key rise, and are past the bits that went before.
 pub positions-rise : (k : Key) (l : ℕ) → Rising (positions l k) × Beyond l (positions l k)
