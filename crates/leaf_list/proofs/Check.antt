@@ -1,7 +1,7 @@
 -- A list passes exactly if it is the leaf list of the register. Assumes nothing.
 use mathlib.Core.Path.{_≡_, refl, _∙_, ap, sym}
 use mathlib.Core.Logic.{_↔_}
-use mathlib.Core.Bool.{Bool, false, _&&_, not, and-assoc, true, and-false, cond}
+use mathlib.Core.Bool.{Bool, false, _&&_, not, and-assoc, true, and-false, cond, and-eq-true-iff}
 use mathlib.Core.Option.{none, some, Option}
 use mathlib.Core.List.{List, _++_, [], _∷_}
 use Prim.Native.Nat.{ℕ, _+_, _<_, _^_}
@@ -22,7 +22,7 @@ use Rattle.leaf_list.proofs.Fitting.{Fitting}
 use Rattle.leaf_list.proofs.FittingHerds.{bitsOf}
 use Rattle.leaf_list.proofs.RegisterHerd.{herdOf-is, length-herdFrom}
 use Rattle.leaf_list.proofs.SubHerds.{fitting-leafList, narrow-inUse}
-use Rattle.leaf_list.proofs.CheckTests.{isEmpty, fittingTest, test-fitting, and-left, and-right, and-both, fitting-test}
+use Rattle.leaf_list.proofs.CheckTests.{isEmpty, fittingTest, test-fitting, fitting-test}
 
 -- Of three tests in a row, the middle one known.
 pub regroup : (a o k x y : Bool) → o ≡ false → x ≡ y → ((a && (not o && k)) && x) ≡ (a && (k && y))
@@ -91,17 +91,19 @@ module _ (w : ℕ) (keys used : List ℕ) (narrow : (r : ℕ) → inUse used r �
 
       to : passes s (countInUse used) ≡ true → (es ≡ trieList w (herdOf keys used)) × Sorted (herdOf keys used)
       to h =
+          let parts = and-eq-true-iff (s .fits && s .closed) (eqb (s .live) (countInUse used)) .0 h in
           law .0 (
-            test-fitting w (keyAt keys) (inUse used) narrow es (zeroBits w) 0 false (zeroBits-length w) (omega arith) (sym (run-from-start es) ∙ and-left (s .fits && s .closed) (eqb (s .live) (countInUse used)) h),
-            sym (run-counts es) ∙ eqb-true (s .live) (countInUse used) (and-right (s .fits && s .closed) (eqb (s .live) (countInUse used)) h) ∙ sym (length-herdFrom (keyAt keys) 0 used),
+            test-fitting w (keyAt keys) (inUse used) narrow es (zeroBits w) 0 false (zeroBits-length w) (omega arith) (sym (run-from-start es) ∙ parts .0),
+            sym (run-counts es) ∙ eqb-true (s .live) (countInUse used) (parts .1) ∙ sym (length-herdFrom (keyAt keys) 0 used),
           )
 
       fro : (es ≡ trieList w (herdOf keys used)) × Sorted (herdOf keys used) → passes s (countInUse used) ≡ true
       fro h =
           let q = law .1 h in
-          and-both (s .fits && s .closed) (eqb (s .live) (countInUse used))
-          (run-from-start es ∙ fitting-test w (keyAt keys) (inUse used) narrow es (zeroBits w) 0 false (zeroBits-length w) (omega arith) (q .0))
-          (eq-eqb (s .live) (countInUse used) (run-counts es ∙ q .1 ∙ length-herdFrom (keyAt keys) 0 used))
+          and-eq-true-iff (s .fits && s .closed) (eqb (s .live) (countInUse used)) .1 (
+            run-from-start es ∙ fitting-test w (keyAt keys) (inUse used) narrow es (zeroBits w) 0 false (zeroBits-length w) (omega arith) (q .0),
+            eq-eqb (s .live) (countInUse used) (run-counts es ∙ q .1 ∙ length-herdFrom (keyAt keys) 0 used),
+          )
 
 -- Where no record in use has a key of more than w bits, neither has the herd of the register.
 pub herdOf-narrow : (w : ℕ) (keys used : List ℕ) → ((r : ℕ) → inUse used r ≡ true → keyAt keys r < 2 ^ w) → Narrow w (herdOf keys used)

@@ -1,22 +1,22 @@
 -- What a loop that runs the check needs besides. Assumes nothing.
 use mathlib.Core.Path.{subst, _∙_, _≡_, ap, sym, refl}
 use mathlib.Core.Logic.{_≢_}
-use mathlib.Core.Bool.{false, Bool, true, _||_, not, _&&_}
+use mathlib.Core.Bool.{false, Bool, true}
 use mathlib.Core.Option.{Option, none}
 use mathlib.Core.List.{List, _∷_, []}
 use Prim.Native.Nat.{ℕ, _<_, _^_, suc, _≤_, _/_, _-_, _+_, _*_, _%_, zero}
 use native.Mathlib.Omega.{arith}
 use native.Mathlib.Nat.{mod-eq-of-lt, mul-comm, mul-assoc, add-mul, one-mul, pow-suc, div-eq-of-lt, mul-suc}
-use lib.Dec.{eqb, leb, ltb}
+use lib.Dec.{eqb}
 use lib.Pow.{shr-shr, pow-pos, pow-mono}
 use lib.ListN.{length, drop, getD, take}
 use lib.Seq.{drop-cons, take-suc}
-use borrow.Author.Tests.{eqb-false, ne-eqb, leb-true, not-true}
-use Rattle.leaf_list.specs.Keys.{setBitAt, value, setBit, bits, bitAt}
+use borrow.Author.Tests.{eqb-false, ne-eqb}
+use Rattle.leaf_list.specs.Keys.{setBitAt, value, setBit, bits, bitAt, firstBits}
 use Rattle.leaf_list.specs.Entries.{entry, Entry}
-use Rattle.leaf_list.specs.Conditions.{State, step, run, passes, entryFits, pointerFits}
+use Rattle.leaf_list.specs.Conditions.{State, step, run, passes, entryFits}
 use Rattle.leaf_list.proofs.Bits.{setBit-length, bits-length, value-bound, setBit-number, value-bits}
-use Rattle.leaf_list.proofs.CheckTests.{and-left, and-right}
+use Rattle.leaf_list.proofs.CheckTests.{entryFits-says}
 use Rattle.leaf_list.proofs.Check.{run-append, run-lost}
 
 -- The discriminator stays within w bits.
@@ -42,7 +42,7 @@ setBitAt-shift w d D h = go (w - d) h
         rw (q, pow-suc 2 j) (even (D / 2 ^ j) (2 ^ j) e)
 
 -- No bits: all agree.
-pub firstBits-none : (w x : ℕ) → x < 2 ^ w → x / 2 ^ (w - 0) ≡ 0
+pub firstBits-none : (w x : ℕ) → x < 2 ^ w → firstBits w 0 x ≡ 0
 firstBits-none w x h = rw (sub w) (div-eq-of-lt h)
   where
     sub : (w : ℕ) → w - 0 ≡ w
@@ -71,19 +71,15 @@ run-more w keyOf used s es i h = ap (run w keyOf used s) (take-suc es i (entry 0
 pub run-fails : (w : ℕ) (keyOf : ℕ → ℕ) (used : ℕ → Bool) (s : State) (es : List Entry) (n : ℕ) → s .fits ≡ false → passes (run w keyOf used s es) n ≡ false
 run-fails w keyOf used s es n h = rw (run-lost w keyOf used es s h)
 
--- An entry that fits, and the discriminator after it as code has it.
+-- The discriminator after an entry that fits, as code has it.
 module _ (w : ℕ) (keyOf : ℕ → ℕ) (used : ℕ → Bool) (D τ : ℕ) (dummy : Bool) (d : ℕ) (p : Option ℕ) (h : entryFits w keyOf used D τ dummy d p ≡ true) where
   pub fits-depth : d ≤ w
-  fits-depth = leb-true d w (and-left (leb d w) ((eqb d 0 || not (bitAt w d D)) && ((not dummy || ltb τ d) && pointerFits w keyOf used D τ d p)) h)
+  fits-depth = entryFits-says w keyOf used D τ dummy d p h .within
 
   pub fits-clear : d ≢ 0 → bitAt w d D ≡ false
-  fits-clear z =
-      not-true (bitAt w d D)
-      (subst (λ (b : Bool). (b || not (bitAt w d D)) ≡ true) (ne-eqb d 0 z)
-      (and-left (eqb d 0 || not (bitAt w d D)) ((not dummy || ltb τ d) && pointerFits w keyOf used D τ d p)
-      (and-right (leb d w) ((eqb d 0 || not (bitAt w d D)) && ((not dummy || ltb τ d) && pointerFits w keyOf used D τ d p)) h)))
+  fits-clear = entryFits-says w keyOf used D τ dummy d p h .clear
 
-  -- the next discriminator, as the code has it
+  -- It stays within w bits,
   pub shift-bound : d ≢ 0 → D < 2 ^ w → (D / 2 ^ (w - d) + 1) * 2 ^ (w - d) < 2 ^ w
   shift-bound z q = subst (λ (x : ℕ). x < 2 ^ w) (setBitAt-shift w d D (fits-clear z)) (pos d z fits-depth)
     where
@@ -91,6 +87,7 @@ module _ (w : ℕ) (keyOf : ℕ → ℕ) (used : ℕ → Bool) (D τ : ℕ) (dum
       pos zero z l = absurd (z refl)
       pos (suc d) z l = setBitAt-bound w d D q l
 
+  -- what is shifted back fits in 64 bits,
   pub shift-fits : d ≢ 0 → D < 2 ^ w → w ≤ 64 → D / 2 ^ (w - d) + 1 < 2 ^ 64
   shift-fits z q l = omega (arith, shift-bound z q, pow-mono l, le-times (D / 2 ^ (w - d) + 1) (2 ^ (w - d)) (pow-pos (w - d)))
     where
@@ -98,8 +95,10 @@ module _ (w : ℕ) (keyOf : ℕ → ℕ) (used : ℕ → Bool) (D τ : ℕ) (dum
       le-times a zero e = absurd (omega arith)
       le-times a (suc b) e = omega (arith, mul-suc a b)
 
+  -- so does the result, which does not wrap,
   pub shift-wraps : d ≢ 0 → D < 2 ^ w → w ≤ 64 → (D / 2 ^ (w - d) + 1) * 2 ^ (w - d) % 2 ^ 64 < 2 ^ w
   shift-wraps z q l = subst (λ (x : ℕ). x < 2 ^ w) (sym (mod-eq-of-lt (omega (arith, shift-bound z q, pow-mono l)))) (shift-bound z q)
 
+  -- and it is setBitAt.
   pub shift-setBitAt : d ≢ 0 → D < 2 ^ w → w ≤ 64 → (D / 2 ^ (w - d) + 1) * 2 ^ (w - d) % 2 ^ 64 ≡ setBitAt w d D
   shift-setBitAt z q l = mod-eq-of-lt (omega (arith, shift-bound z q, pow-mono l)) ∙ sym (setBitAt-shift w d D (fits-clear z))
