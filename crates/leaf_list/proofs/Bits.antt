@@ -5,7 +5,7 @@ use mathlib.Core.Bool.{false, true, true≢false, Bool}
 use mathlib.Core.List.{_∷_, []}
 use Prim.Native.Nat.{ℕ, zero, suc, _<_, _*_, _^_, _+_, _%_, _/_, _≤_, _-_}
 use native.Mathlib.Omega.{arith}
-use native.Mathlib.Nat.{zero-mul, one-mul, mod-lt, pow-suc, mod-eq-of-lt, div-eq-of-lt, mul-add-div-right, add-mul, zero-add}
+use native.Mathlib.Nat.{zero-mul, one-mul, mod-lt, mod-eq-of-lt, pow-suc, div-eq-of-lt, mul-add-div-right, add-mul, zero-add}
 use native.Mathlib.Numerals.{one-add}
 use lib.Dec.{eqb, ltb}
 use lib.Pow.{mod-pow-add, pow-add, pow-pos}
@@ -28,6 +28,10 @@ value-cons (suc (suc q)) k h = absurd (omega arith)
 pub value-bits : (n x : ℕ) → value (bits n x) ≡ x % 2 ^ n
 value-bits zero x = omega arith
 value-bits (suc n) x = value-cons (x / 2 ^ n % 2) (bits n x) (mod-lt (x / 2 ^ n) (omega arith)) ∙ rw (bits-length n x, value-bits n x, ← (mod-pow-add x 1 n), one-add n)
+
+-- A number of n bits is the value of its bits.
+pub value-number : (n x : ℕ) → x < 2 ^ n → value (bits n x) ≡ x
+value-number n x h = value-bits n x ∙ mod-eq-of-lt h
 
 -- A key of n bits is below 2 ^ n.
 pub value-bound : (k : Key) → value k < 2 ^ length k
@@ -71,7 +75,7 @@ pub sameKey-bits : (n x y : ℕ) → x < 2 ^ n → y < 2 ^ n → x ≢ y → sam
 sameKey-bits n x y hx hy d = go (sameKey (bits n x) (bits n y)) refl
   where
     go : (t : Bool) → sameKey (bits n x) (bits n y) ≡ t → t ≡ false
-    go true e = absurd (d (sym (mod-eq-of-lt hx) ∙ sym (value-bits n x) ∙ ap value (sameKey-equal (bits n x) (bits n y) e) ∙ value-bits n y ∙ mod-eq-of-lt hy))
+    go true e = absurd (d (sym (value-number n x hx) ∙ ap value (sameKey-equal (bits n x) (bits n y) e) ∙ value-number n y hy))
     go false e = refl
 
 -- The order of two sums with one part in common.
@@ -92,6 +96,10 @@ below-value (false ∷ k) (false ∷ k′) e = below-value k k′ (omega arith)
 below-value (false ∷ k) (true ∷ k′) e = rw (lt-ltb (value k) (2 ^ length k′ + value k′) (omega (arith, value-bound k, power-length k k′ (omega arith))))
 below-value (true ∷ k) (false ∷ k′) e = rw (le-ltb (2 ^ length k + value k) (value k′) (omega (arith, value-bound k′, power-length k k′ (omega arith))))
 below-value (true ∷ k) (true ∷ k′) e = rw (power-length k k′ (omega arith), add-ltb (2 ^ length k′) (value k) (value k′)) (below-value k k′ (omega arith))
+
+-- The order of numbers is the order of their bits.
+pub below-bits : (n x y : ℕ) → x < 2 ^ n → y < 2 ^ n → below (bits n x) (bits n y) ≡ ltb x y
+below-bits n x y hx hy = below-value (bits n x) (bits n y) (bits-length n x ∙ sym (bits-length n y)) ∙ rw (value-number n x hx, value-number n y hy)
 
 -- n zeros are n bits.
 pub zeroBits-length : (n : ℕ) → length (zeroBits n) ≡ n

@@ -33,20 +33,23 @@ pub closed-fails : (a o k : Bool) → o ≡ true → (a && (not o && k)) ≡ fal
 closed-fails a o k h = rw h (and-false a)
 
 module _ (w : ℕ) (keyOf : ℕ → ℕ) (used : ℕ → Bool) where
-  -- page by page
+  -- Page after page: the next page takes the state that the page before it left.
   pub run-append : (xs ys : List Entry) (s : State) → run w keyOf used s (xs ++ ys) ≡ run w keyOf used (run w keyOf used s xs) ys
   run-append [] ys s = refl
   run-append (x ∷ xs) ys s = run-append xs ys (step w keyOf used s x)
 
+  -- Once an entry did not fit, nothing makes up for it.
   pub run-lost : (es : List Entry) (s : State) → s .fits ≡ false → run w keyOf used s es .fits ≡ false
   run-lost [] s h = h
   run-lost (entry d p ∷ es) s h = run-lost es (step w keyOf used s (entry d p)) (rw h)
 
+  -- The live entries are counted.
   pub run-live : (es : List Entry) (s : State) → run w keyOf used s es .live ≡ s .live + length (liveRecords es)
   run-live [] s = omega arith
   run-live (entry d none ∷ es) s = run-live es (step w keyOf used s (entry d none))
   run-live (entry d (some r) ∷ es) s = run-live es (step w keyOf used s (entry d (some r))) ∙ omega arith
 
+  -- After the closing entry nothing may follow.
   run-closed : (s : State) (d : ℕ) (p : Option ℕ) (rest : List Entry) → s .closed ≡ false → eqb d 0 ≡ true
       → (run w keyOf used s (entry d p ∷ rest) .fits && run w keyOf used s (entry d p ∷ rest) .closed) ≡ (s .fits && (entryFits w keyOf used (s .disc) (s .trail) (s .dummy) d p && isEmpty rest))
   run-closed s d p [] h z = regroup (s .fits) (s .closed) (entryFits w keyOf used (s .disc) (s .trail) (s .dummy) d p) (eqb d 0) true h z
@@ -55,6 +58,7 @@ module _ (w : ℕ) (keyOf : ℕ → ℕ) (used : ℕ → Bool) where
       let y : run w keyOf used (step w keyOf used s′ (entry d′ p′)) rest .fits ≡ false = run-lost rest (step w keyOf used s′ (entry d′ p′)) (closed-fails (s′ .fits) (s′ .closed) (entryFits w keyOf used (s′ .disc) (s′ .trail) (s′ .dummy) d′ p′) z) in
       rw (y, and-false (entryFits w keyOf used (s .disc) (s .trail) (s .dummy) d p), and-false (s .fits))
 
+  -- The run does the test of the entries.
   pub run-test : (es : List Entry) (s : State) → s .closed ≡ false
       → (run w keyOf used s es .fits && run w keyOf used s es .closed) ≡ (s .fits && fittingTest w keyOf used (s .disc) (s .trail) (s .dummy) es)
   run-test [] s h = rw h
@@ -72,12 +76,15 @@ module _ (w : ℕ) (keyOf : ℕ → ℕ) (used : ℕ → Bool) where
           (fittingTest w keyOf used (setBitAt w d (s .disc)) d (isNil p) rest) h (ap (λ (b : Bool). fittingTest w keyOf used (cond b 0 (setBitAt w d (s .disc))) d (isNil p) rest) z)
 
 module _ (w : ℕ) (keys used : List ℕ) (narrow : (r : ℕ) → inUse used r ≡ true → keyAt keys r < 2 ^ w) where
+  -- From the start,
   run-from-start : (es : List Entry) → (run w (keyAt keys) (inUse used) start es .fits && run w (keyAt keys) (inUse used) start es .closed) ≡ fittingTest w (keyAt keys) (inUse used) (value (zeroBits w)) 0 false es
   run-from-start es = run-test w (keyAt keys) (inUse used) es start refl ∙ rw (value-zeroBits w)
 
+  -- with the live entries of the list.
   run-counts : (es : List Entry) → run w (keyAt keys) (inUse used) start es .live ≡ length (liveRecords es)
   run-counts es = run-live w (keyAt keys) (inUse used) es start ∙ omega arith
 
+  -- The check against the trie's entries.
   pub check-trieList : (es : List Entry)
       → (passes (run w (keyAt keys) (inUse used) start es) (countInUse used) ≡ true) ↔ ((es ≡ trieList w (herdOf keys used)) × Sorted (herdOf keys used))
   check-trieList es = (to, fro)

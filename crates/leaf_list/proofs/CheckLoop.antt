@@ -6,7 +6,7 @@ use mathlib.Core.Option.{Option, none}
 use mathlib.Core.List.{List, _∷_, []}
 use Prim.Native.Nat.{ℕ, _<_, _^_, suc, _≤_, _/_, _-_, _+_, _*_, _%_, zero}
 use native.Mathlib.Omega.{arith}
-use native.Mathlib.Nat.{mod-eq-of-lt, mul-comm, mul-assoc, add-mul, one-mul, pow-suc, div-eq-of-lt, mul-suc}
+use native.Mathlib.Nat.{mul-comm, mul-assoc, add-mul, one-mul, pow-suc, div-eq-of-lt, mul-suc, mod-eq-of-lt}
 use lib.Dec.{eqb}
 use lib.Pow.{shr-shr, pow-pos, pow-mono}
 use lib.ListN.{length, drop, getD, take}
@@ -15,7 +15,7 @@ use borrow.Author.Tests.{eqb-false, ne-eqb}
 use Rattle.leaf_list.specs.Keys.{setBitAt, value, setBit, bits, bitAt, firstBits}
 use Rattle.leaf_list.specs.Entries.{entry, Entry}
 use Rattle.leaf_list.specs.Conditions.{State, step, run, passes, entryFits}
-use Rattle.leaf_list.proofs.Bits.{setBit-length, bits-length, value-bound, setBit-number, value-bits}
+use Rattle.leaf_list.proofs.Bits.{setBit-length, bits-length, value-bound, setBit-number, value-number}
 use Rattle.leaf_list.proofs.CheckTests.{entryFits-says}
 use Rattle.leaf_list.proofs.Check.{run-append, run-lost}
 
@@ -24,7 +24,7 @@ pub setBitAt-bound : (w d D : ℕ) → D < 2 ^ w → suc d ≤ w → setBitAt w 
 setBitAt-bound w d D h l = subst (λ (x : ℕ). x < 2 ^ w) e (subst (λ (n : ℕ). value (setBit (suc d) (bits w D)) < 2 ^ n) (setBit-length (suc d) (bits w D) ∙ bits-length w D) (value-bound (setBit (suc d) (bits w D))))
   where
     e : value (setBit (suc d) (bits w D)) ≡ setBitAt w (suc d) D
-    e = setBit-number w d (bits w D) (bits-length w D) l ∙ ap (setBitAt w (suc d)) (value-bits w D ∙ mod-eq-of-lt h)
+    e = setBit-number w d (bits w D) (bits-length w D) l ∙ ap (setBitAt w (suc d)) (value-number w D h)
 
 -- Where the bit is clear, by a shift of at most w - 1: right, one more, left.
 pub setBitAt-shift : (w d D : ℕ) → bitAt w d D ≡ false → setBitAt w d D ≡ (D / 2 ^ (w - d) + 1) * 2 ^ (w - d)

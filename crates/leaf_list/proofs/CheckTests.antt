@@ -6,14 +6,13 @@ use mathlib.Core.Option.{Option, none, some}
 use mathlib.Core.List.{List, [], _∷_}
 use Prim.Native.Nat.{ℕ, _≤_, _<_, _^_, _/_, _-_, max, suc, zero}
 use native.Mathlib.Omega.{arith}
-use native.Mathlib.Nat.{mod-eq-of-lt}
 use lib.Dec.{eqb, leb, ltb}
 use lib.ListN.{take, length, length-take}
 use borrow.Author.Tests.{leb-true, not-true, ne-eqb, ltb-true, le-leb, eqb-false, lt-ltb, not-false, eqb-true, eq-eqb}
 use Rattle.leaf_list.specs.Keys.{setBitAt, bitAt, value, bits, Key, bitOf, setBit}
 use Rattle.leaf_list.specs.Entries.{Entry, entry, isNil}
 use Rattle.leaf_list.specs.Conditions.{entryFits, pointerFits}
-use Rattle.leaf_list.proofs.Bits.{value-take, bits-length, value-bits, value-injective, bitOf-value, setBit-length, setBit-number}
+use Rattle.leaf_list.proofs.Bits.{value-take, bits-length, value-number, value-injective, bitOf-value, setBit-length, setBit-number}
 use Rattle.leaf_list.proofs.Fitting.{PointerFits, Fitting, not-then-false}
 use Rattle.leaf_list.proofs.FittingHerds.{bitsOf}
 
@@ -76,7 +75,7 @@ module _ (w : ℕ) (keyOf : ℕ → ℕ) (used : ℕ → Bool) (D τ : ℕ) (dum
 module _ (w : ℕ) (keyOf : ℕ → ℕ) (used : ℕ → Bool) (narrow : (r : ℕ) → used r ≡ true → keyOf r < 2 ^ w) where
   -- The first l bits of a key, as a number.
   first-bits : (r l : ℕ) → used r ≡ true → l ≤ w → value (take l (bits w (keyOf r))) ≡ keyOf r / 2 ^ (w - l)
-  first-bits r l u h = value-take (bits w (keyOf r)) l (w - l) (bits-length w (keyOf r) ∙ omega arith) ∙ rw (value-bits w (keyOf r), mod-eq-of-lt (narrow r u))
+  first-bits r l u h = value-take (bits w (keyOf r)) l (w - l) (bits-length w (keyOf r) ∙ omega arith) ∙ rw (value-number w (keyOf r) (narrow r u))
 
   -- Keys with the same first bits by numbers have them as bits,
   agree-bits : (D : Key) (r l : ℕ) → length D ≡ w → l ≤ w → used r ≡ true → keyOf r / 2 ^ (w - l) ≡ value D / 2 ^ (w - l) → take l (bits w (keyOf r)) ≡ take l D

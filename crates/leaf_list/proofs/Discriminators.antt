@@ -5,7 +5,6 @@ use mathlib.Core.Option.{Option, some, none}
 use mathlib.Core.List.{List, [], _∷_, reverseAux}
 use Prim.Native.Nat.{ℕ, zero, suc, _<_, _^_}
 use native.Mathlib.Omega.{arith}
-use native.Mathlib.Nat.{mod-eq-of-lt}
 use lib.Dec.{eqb}
 use lib.ListN.{length}
 use borrow.Author.Tests.{ne-eqb}
@@ -15,7 +14,7 @@ use Rattle.leaf_list.specs.Herd.{Herd}
 use Rattle.leaf_list.specs.LeafList.{items}
 use Rattle.leaf_list.specs.Trie.{Trie, leaf, zero-only, one-only, fork, write, writeAll, trieList, trieOf}
 use Rattle.leaf_list.specs.Search.{firstExceeding, search, positions}
-use Rattle.leaf_list.proofs.Bits.{zeroBits-length, below-zeroBits, setBit-number, below-value, setBit-length, bits-length, value-bits, value-zeroBits}
+use Rattle.leaf_list.proofs.Bits.{zeroBits-length, below-zeroBits, setBit-number, below-value, setBit-length, bits-length, value-number, value-zeroBits}
 use Rattle.leaf_list.proofs.Paths.{below-path, setBit-here}
 use Rattle.leaf_list.proofs.Tries.{Sized, lastRecord, Given, sized-reaches}
 use Rattle.leaf_list.proofs.Places.{passFront, passed, remaining, stops-shallow, search-node}
@@ -136,7 +135,7 @@ firstAbove-search n (some t) k f h = firstAbove-node t [] k n 0 [] [] f h (λ k 
 pub search-trieList : (w x : ℕ) (s : Herd) → x < 2 ^ w → search [] (positions 0 (bits w x)) (trieList w s) ≡ firstExceeding w x [] 0 (trieList w s)
 search-trieList w x s h =
     sym (firstAbove-search w (trieOf w (items w s)) (bits w x) f (bits-length w x)) ∙ sym (firstExceeding-bits w (bits w x) [] (zeroBits w) (trieList w s) (bits-length w x) (zeroBits-length w) (depthsWithin-writeAll w (trieOf w (items w s)) f))
-    ∙ rw (value-bits w x, mod-eq-of-lt h, value-zeroBits w)
+    ∙ rw (value-number w x h, value-zeroBits w)
   where
     f : Given (Sized w) (trieOf w (items w s))
     f = trieOf-sized w (items w s) (items-lengths w s)

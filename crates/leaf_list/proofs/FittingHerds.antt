@@ -5,7 +5,7 @@ use mathlib.Core.Option.{none, some, Option}
 use mathlib.Core.List.{List, [], _∷_, reverseAux}
 use Prim.Native.Nat.{ℕ, _<_, _^_, _≤_, zero, suc}
 use native.Mathlib.Omega.{arith}
-use native.Mathlib.Nat.{mod-eq-of-lt, zero-add}
+use native.Mathlib.Nat.{zero-add}
 use borrow.Author.Tests.{ltb-true}
 use Rattle.leaf_list.specs.Keys.{Key, bits, zeroBits}
 use Rattle.leaf_list.specs.Entries.{Entry, liveRecords, entry}
@@ -13,7 +13,7 @@ use Rattle.leaf_list.specs.Herd.{Herd, Narrow, Above, Sorted, KeysOf, re
 use Rattle.leaf_list.specs.LeafList.{items, item}
 use Rattle.leaf_list.specs.Trie.{Trie, leaf, zero-only, one-only, fork, trieList, writeAll, write, trieOf}
 use Rattle.leaf_list.proofs.Lists.{All}
-use Rattle.leaf_list.proofs.Bits.{below-value, bits-length, value-bits}
+use Rattle.leaf_list.proofs.Bits.{below-bits, bits-length}
 use Rattle.leaf_list.proofs.Tries.{KeysIn, Pruned, Sized, Given, at-leaf}
 use Rattle.leaf_list.proofs.Items.{Least, Ordered}
 use Rattle.leaf_list.proofs.TrieOf.{trieOf-nil, trieOf-pruned, trieOf-sized, trieOf-keys}
@@ -36,6 +36,7 @@ abbrev pub bitsOf : ℕ → (ℕ → ℕ) → ℕ → Key
 bitsOf w keyOf r = bits w (keyOf r)
 
 module _ (w : ℕ) (keyOf : ℕ → ℕ) (used : ℕ → Bool) where
+  -- The keys of a trie whose records fit are its records' keys.
   leaves-items : (t : Trie) (u : Key) (rs : List ℕ) → RecordsFit (bitsOf w keyOf) used u t → leaves (reverseAux u) t (items w (herdWith keyOf rs)) ≡ items w (herdWith keyOf (trieRecords t rs))
   leaves-items (leaf k r) u rs h = ap (λ (x : Key). item x r ∷ items w (herdWith keyOf rs)) (sym (h .1))
   leaves-items (zero-only t) u rs h = leaves-items t (false ∷ u) rs h
@@ -43,12 +44,14 @@ module _ (w : ℕ) (keyOf : ℕ → ℕ) (used : ℕ → Bool) where
   leaves-items (fork a b) u rs h =
       ap (leaves (reverseAux (false ∷ u)) a) (leaves-items b (true ∷ u) rs (h .1)) ∙ leaves-items a (false ∷ u) (trieRecords b rs) (h .0)
 
+  -- Its records are in use.
   records-in-use : (t : Trie) (u : Key) (rs : List ℕ) → RecordsFit (bitsOf w keyOf) used u t → AllInUse used rs → AllInUse used (trieRecords t rs)
   records-in-use (leaf k r) u rs h a = (h .0, a)
   records-in-use (zero-only t) u rs h a = records-in-use t (false ∷ u) rs h a
   records-in-use (one-only t) u rs h a = records-in-use t (true ∷ u) rs h a
   records-in-use (fork p q) u rs h a = records-in-use p (false ∷ u) (trieRecords q rs) (h .0) (records-in-use q (true ∷ u) rs (h .1) a)
 
+  -- Records in use with the keys that the trie says fit.
   records-fit : (t : Trie) (u : Key) (rs : List ℕ) → KeysIn (bitsOf w keyOf) u t → AllInUse used (trieRecords t rs) → RecordsFit (bitsOf w keyOf) used u t × AllInUse used rs
   records-fit (leaf k r) u rs h a = ((a .0, h), a .1)
   records-fit (zero-only t) u rs h a = records-fit t (false ∷ u) rs h a
@@ -58,18 +61,18 @@ module _ (w : ℕ) (keyOf : ℕ → ℕ) (used : ℕ → Bool) where
       let y = records-fit q (true ∷ u) rs (h .1) (x .1) in
       ((x .0, y .0), y .1)
 
+  -- A key below all others as bits is so as a number.
   least-above : (k : ℕ) (s : Herd) → k < 2 ^ w → Narrow w s → Least (bits w k) (items w s) → Above k s
   least-above k [] h q o = tt
-  least-above k (x ∷ s) h q o = (
-    ltb-true k x.0 (sym (below-value (bits w k) (bits w x.0) (bits-length w k ∙ sym (bits-length w x.0)) ∙ rw (value-bits w k, value-bits w x.0, mod-eq-of-lt h, mod-eq-of-lt (q .0))) ∙ o .0),
-    least-above k s h (q .1) (o .1),
-  )
+  least-above k (x ∷ s) h q o = (ltb-true k x.0 (sym (below-bits w k x.0 h (q .0)) ∙ o .0), least-above k s h (q .1) (o .1))
 
+  -- Keys that rise as bits make a sorted herd.
   ordered-sorted : (s : Herd) → Narrow w s → Ordered (items w s) → Sorted s
   ordered-sorted [] q o = tt
   ordered-sorted (x ∷ s) q o = (least-above x.0 s (q .0) (q .1) (o .0), ordered-sorted s (q .1) (o .1))
 
   module _ (narrow : (r : ℕ) → used r ≡ true → keyOf r < 2 ^ w) where
+    -- Records in use have no key of more than w bits.
     narrow-with : (rs : List ℕ) → AllInUse used rs → Narrow w (herdWith keyOf rs)
     narrow-with [] a = tt
     narrow-with (r ∷ rs) a = (narrow r (a .0), narrow-with rs (a .1))
@@ -78,9 +81,11 @@ module _ (w : ℕ) (keyOf : ℕ → ℕ) (used : ℕ → Bool) where
     abbrev pub OwnList : List Entry → Type 0
     OwnList es = (es ≡ trieList w (herdWith keyOf (liveRecords es))) × Sorted (herdWith keyOf (liveRecords es)) × AllInUse used (liveRecords es)
 
+    -- The sole entry.
     own-sole : OwnList (entry 0 none ∷ [])
     own-sole = (ap writeAll (sym (trieOf-nil w)), tt, tt)
 
+    -- The entries of a trie.
     own-trie : (t : Trie) → Pruned t → Sized w t → RecordsFit (bitsOf w keyOf) used [] t → OwnList (write 0 t 0 [])
     own-trie t g f h =
         let e : liveRecords (write 0 t 0 []) ≡ trieRecords t [] = liveRecords-write t 0 0 [] in
@@ -91,6 +96,7 @@ module _ (w : ℕ) (keyOf : ℕ → ℕ) (used : ℕ → Bool) where
           records-in-use t [] [] h tt,
         )
 
+    -- The entries that a node is read off.
     own-node : (es : List Entry) → NodeRead w (bitsOf w keyOf) used [] w es → OwnList es
     own-node es N = go (N .c) (N .low) (N .after) (N .written)
       where
@@ -98,6 +104,7 @@ module _ (w : ℕ) (keyOf : ℕ → ℕ) (used : ℕ → Bool) where
         go zero h q e = subst OwnList (sym (e ∙ ap (write 0 (N .trie) 0) q)) (own-trie (N .trie) (N .pruned) (N .sized) (N .fit))
         go (suc c) h q e = absurd (omega arith)
 
+    -- Entries that open a node at the root.
     own-root : (es : List Entry) → Opens 0 0 es → Fitting w (bitsOf w keyOf) used (zeroBits w) 0 false es → OwnList es
     own-root es o s = own-node es (read-node w (bitsOf w keyOf) used (λ r. bits-length w (keyOf r)) w [] 0 false es (zero-add w) (omega arith) o s)
 

@@ -71,20 +71,20 @@ module _ (keyOf : ℕ → Key) where
   pub other-node : (t : Trie) (u k : Key) (c : ℕ) (before rest : List Entry)
       → NotHeld k t → Pruned t → KeysIn keyOf u t → c ≤ length u → trailing before ≤ length u → AtLeaf (max (trailing before) c ≡ length u) t
       → FoundOther keyOf (reverseAux u k) (trailing (passed (length u) t k before)) (remaining (length u) t k c rest)
-  other-node (leaf k′ r) u k c before rest f g q hc hL e = other-at-leaf u k k′ r c (trailing before) f q e
-  other-node (zero-only t) u [] c before rest f g q hc hL e = absurd f
-  other-node (zero-only t) u (false ∷ k) c before rest f g q hc hL e =
+  other-node (leaf k′ r) u k c before rest f g q hc hτ e = other-at-leaf u k k′ r c (trailing before) f q e
+  other-node (zero-only t) u [] c before rest f g q hc hτ e = absurd f
+  other-node (zero-only t) u (false ∷ k) c before rest f g q hc hτ e =
       other-node t (false ∷ u) k c before rest f (g .1) q (omega arith) (omega arith) (at-branching _ t (g .0))
-  other-node (zero-only t) u (true ∷ k) c before rest f g q hc hL e = other-after-zeros u k t c before (g .0) (g .1) q hc
-  other-node (one-only t) u [] c before rest f g q hc hL e = absurd f
-  other-node (one-only t) u (false ∷ k) c before rest f g q hc hL e = tt
-  other-node (one-only t) u (true ∷ k) c before rest f g q hc hL e =
+  other-node (zero-only t) u (true ∷ k) c before rest f g q hc hτ e = other-after-zeros u k t c before (g .0) (g .1) q hc
+  other-node (one-only t) u [] c before rest f g q hc hτ e = absurd f
+  other-node (one-only t) u (false ∷ k) c before rest f g q hc hτ e = tt
+  other-node (one-only t) u (true ∷ k) c before rest f g q hc hτ e =
       other-node t (true ∷ u) k c (entry (suc (length u)) none ∷ before) rest f (g .1) q (omega arith) (omega arith) (at-branching _ t (g .0))
-  other-node (fork a b) u [] c before rest f g q hc hL e = absurd f
-  other-node (fork a b) u (false ∷ k) c before rest f g q hc hL e =
+  other-node (fork a b) u [] c before rest f g q hc hτ e = absurd f
+  other-node (fork a b) u (false ∷ k) c before rest f g q hc hτ e =
       other-node a (false ∷ u) k (suc (length u)) before (write (suc (length u)) b c rest) f (g .0) (q .0) (omega arith) (omega arith)
       (at-leaf _ a (omega arith))
-  other-node (fork a b) u (true ∷ k) c before rest f g q hc hL e =
+  other-node (fork a b) u (true ∷ k) c before rest f g q hc hτ e =
       other-node b (true ∷ u) k c (entry (suc (length u)) (some (lastRecord a)) ∷ passFront (suc (length u)) a before) rest f (g .1) (q .1) (omega arith) (omega arith)
       (at-leaf _ b (omega arith))
 

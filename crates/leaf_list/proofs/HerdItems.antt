@@ -1,11 +1,10 @@
 -- The list of keys of a herd, and the trie's entries of it. Assumes nothing.
-use mathlib.Core.Path.{ap, _≡_, refl, _∙_, sym}
+use mathlib.Core.Path.{ap, _≡_, refl, _∙_}
 use mathlib.Core.Bool.{Bool, cond, true, false}
 use mathlib.Core.Option.{some, none, Option}
 use mathlib.Core.List.{[], _∷_, List}
 use Prim.Native.Nat.{ℕ, _<_, _^_}
 use native.Mathlib.Omega.{arith}
-use native.Mathlib.Nat.{mod-eq-of-lt}
 use lib.Dec.{ltb, eqb}
 use borrow.Author.Tests.{eqb-true, lt-ltb}
 use Rattle.leaf_list.specs.Keys.{bits}
@@ -16,7 +15,7 @@ use Rattle.leaf_list.specs.Trie.{trieList}
 use Rattle.leaf_list.specs.Search.{find}
 use Rattle.leaf_list.specs.Insertion.{insertion}
 use Rattle.leaf_list.specs.Deletion.{deletion}
-use Rattle.leaf_list.proofs.Bits.{bits-length, sameKey-bits, below-value, value-bits}
+use Rattle.leaf_list.proofs.Bits.{bits-length, sameKey-bits, below-bits}
 use Rattle.leaf_list.proofs.Items.{Lengths, NoKey, ItemKeys, Least, Ordered, Distinct}
 use Rattle.leaf_list.proofs.TrieChange.{With, here, there}
 use Rattle.leaf_list.proofs.ItemLaws.{insertion-items, deletion-items, find-missing, find-held}
@@ -63,11 +62,7 @@ items-remove w k r (x ∷ s) e = go (eqb k x.0) refl e (λ e′. items-remove w 
 -- A key below all of a herd's is so as bits.
 pub items-least : (w k : ℕ) (s : Herd) → k < 2 ^ w → Narrow w s → Above k s → Least (bits w k) (items w s)
 items-least w k [] h q a = tt
-items-least w k (x ∷ s) h q a = (
-  below-value (bits w k) (bits w x.0) (bits-length w k ∙ sym (bits-length w x.0))
-      ∙ rw (value-bits w k, value-bits w x.0, mod-eq-of-lt h, mod-eq-of-lt (q .0), lt-ltb k x.0 (a .0)),
-  items-least w k s h (q .1) (a .1),
-)
+items-least w k (x ∷ s) h q a = (below-bits w k x.0 h (q .0) ∙ lt-ltb k x.0 (a .0), items-least w k s h (q .1) (a .1))
 
 -- The keys of a sorted herd rise.
 pub items-ordered : (w : ℕ) (s : Herd) → Narrow w s → Sorted s → Ordered (items w s)

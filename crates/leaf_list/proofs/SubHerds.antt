@@ -72,11 +72,12 @@ narrow-inUse w keyOf used narrow (x ∷ s) k a = (subst (λ (y : ℕ). y < 2 ^ w
 
 -- The list against the herd of a register.
 module _ (w : ℕ) (keyOf : ℕ → ℕ) (used : ℕ → Bool) (s : Herd) (b : IsHerdOf keyOf used s) (narrow : (r : ℕ) → used r ≡ true → keyOf r < 2 ^ w) where
+  -- Records in use are in the herd.
   subHerd-with : (rs : List ℕ) → AllInUse used rs → SubHerd (herdWith keyOf rs) s
   subHerd-with [] a = tt
   subHerd-with (r ∷ rs) a = (b .all r (a .0), subHerd-with rs (a .1))
 
-  -- the linear check
+  -- A list fits, with as many live entries as the herd has keys, exactly if it is the leaf list and the herd is sorted.
   pub fitting-leafList : (es : List Entry)
       → (Fitting w (bitsOf w keyOf) used (zeroBits w) 0 false es × (length (liveRecords es) ≡ length s)) ↔ ((es ≡ trieList w s) × Sorted s)
   fitting-leafList es = (to, fro)

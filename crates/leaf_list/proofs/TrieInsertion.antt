@@ -75,14 +75,16 @@ write-twoLeaves (true ∷ k) (true ∷ k′) r r′ l m c rest a h =
 
 -- Insertion into the entries of a node.
 module _ (keyOf : ℕ → Key) where
+  -- At a leaf, b is above l.
   insert-at-leaf : (u k k′ : Key) (r r′ c : ℕ) (before rest : List Entry) → Differ k k′ → keyOf r′ ≡ reverseAux u k′ → max (trailing before) c ≡ length u
-      → insertInto keyOf (reverseAux u k) r (before, (entry c (some r′) ∷ rest)) ≡ reverseAux before (write (length u) (twoLeaves k r k′ r′) c rest)
+      → insertInto keyOf (reverseAux u k) r (before, entry c (some r′) ∷ rest) ≡ reverseAux before (write (length u) (twoLeaves k r k′ r′) c rest)
   insert-at-leaf u k k′ r r′ c before rest a g e =
       rw (g, firstDifference-path u k k′, below-path u k k′, leafDepth-max (trailing before) c, e, le-ltb (firstDifference (length u) k k′) (length u) (omega (arith, firstDifference-above (length u) k k′)))
       (ap (reverseAux before) (dummies-path u k (length u) _ _ (omega arith) ∙ write-twoLeaves k k′ r r′ (length u) (length u) c rest a (omega arith)))
 
+  -- After a node whose keys all go on with 0, b is below l.
   insert-after-zeros : (u k : Key) (t : Trie) (r c : ℕ) (before rest : List Entry) → Branching t → Pruned t → KeysIn keyOf (false ∷ u) t
-      → insertInto keyOf (reverseAux u (true ∷ k)) r ((passFront (suc (length u)) t before), (entry c (some (lastRecord t)) ∷ rest))
+      → insertInto keyOf (reverseAux u (true ∷ k)) r (passFront (suc (length u)) t before, entry c (some (lastRecord t)) ∷ rest)
       ≡ reverseAux before (write (suc (length u)) t (suc (length u)) (entry c (some r) ∷ rest))
   insert-after-zeros u k t r c before rest m g q =
       rw (
@@ -93,23 +95,24 @@ module _ (keyOf : ℕ → Key) where
       )
       (rewind t (suc (length u)) (suc (length u)) before (entry c (some r) ∷ rest))
 
+  -- At the place that a search finds in a node.
   pub insert-node : (t : Trie) (u k : Key) (r c : ℕ) (before rest : List Entry)
       → NotHeld k t → Pruned t → KeysIn keyOf u t → c ≤ length u → trailing before ≤ length u → AtLeaf (max (trailing before) c ≡ length u) t
-      → insertInto keyOf (reverseAux u k) r ((passed (length u) t k before), (remaining (length u) t k c rest)) ≡ reverseAux before (write (length u) (insertTrie k r t) c rest)
-  insert-node (leaf k′ r′) u k r c before rest f g q hc hL e = insert-at-leaf u k k′ r r′ c before rest f q e
-  insert-node (zero-only t) u [] r c before rest f g q hc hL e = absurd f
-  insert-node (zero-only t) u (false ∷ k) r c before rest f g q hc hL e =
+      → insertInto keyOf (reverseAux u k) r (passed (length u) t k before, remaining (length u) t k c rest) ≡ reverseAux before (write (length u) (insertTrie k r t) c rest)
+  insert-node (leaf k′ r′) u k r c before rest f g q hc hτ e = insert-at-leaf u k k′ r r′ c before rest f q e
+  insert-node (zero-only t) u [] r c before rest f g q hc hτ e = absurd f
+  insert-node (zero-only t) u (false ∷ k) r c before rest f g q hc hτ e =
       insert-node t (false ∷ u) k r c before rest f (g .1) q (omega arith) (omega arith) (at-branching _ t (g .0))
-  insert-node (zero-only t) u (true ∷ k) r c before rest f g q hc hL e = insert-after-zeros u k t r c before rest (g .0) (g .1) q
-  insert-node (one-only t) u [] r c before rest f g q hc hL e = absurd f
-  insert-node (one-only t) u (false ∷ k) r c before rest f g q hc hL e = refl
-  insert-node (one-only t) u (true ∷ k) r c before rest f g q hc hL e =
+  insert-node (zero-only t) u (true ∷ k) r c before rest f g q hc hτ e = insert-after-zeros u k t r c before rest (g .0) (g .1) q
+  insert-node (one-only t) u [] r c before rest f g q hc hτ e = absurd f
+  insert-node (one-only t) u (false ∷ k) r c before rest f g q hc hτ e = refl
+  insert-node (one-only t) u (true ∷ k) r c before rest f g q hc hτ e =
       insert-node t (true ∷ u) k r c (entry (suc (length u)) none ∷ before) rest f (g .1) q (omega arith) (omega arith) (at-branching _ t (g .0))
-  insert-node (fork a b) u [] r c before rest f g q hc hL e = absurd f
-  insert-node (fork a b) u (false ∷ k) r c before rest f g q hc hL e =
+  insert-node (fork a b) u [] r c before rest f g q hc hτ e = absurd f
+  insert-node (fork a b) u (false ∷ k) r c before rest f g q hc hτ e =
       insert-node a (false ∷ u) k r (suc (length u)) before (write (suc (length u)) b c rest) f (g .0) (q .0) (omega arith) (omega arith)
       (at-leaf _ a (omega arith))
-  insert-node (fork a b) u (true ∷ k) r c before rest f g q hc hL e =
+  insert-node (fork a b) u (true ∷ k) r c before rest f g q hc hτ e =
       insert-node b (true ∷ u) k r c (entry (suc (length u)) (some (lastRecord a)) ∷ passFront (suc (length u)) a before) rest f (g .1) (q .1) (omega arith) (omega arith)
       (at-leaf _ b (omega arith))
       ∙ rewind a (suc (length u)) (suc (length u)) before (write (suc (length u)) (insertTrie k r b) c rest)
