@@ -166,3 +166,11 @@ lookup-holds k r (x ∷ s) e = go (eqb k x.0) refl e (λ e′. lookup-holds k r 
     go : (t : Bool) → eqb k x.0 ≡ t → cond t (some x.1) (lookup k s) ≡ some r → (lookup k s ≡ some r → Holds k r s) → Holds k r (x ∷ s)
     go true q e ih = inl (eqb-true k x.0 q, (let z : x.1 ≡ r = cc in sym z))
     go false q e ih = inr (ih e)
+
+-- Its records have their keys.
+pub herdOf-keysOf : (keys used : List ℕ) → KeysOf (keyAt keys) (herdOf keys used)
+herdOf-keysOf keys used = herdOf-is keys used .keysOf
+
+-- It has as many keys as records are in use.
+pub herdOf-length : (keys used : List ℕ) → length (herdOf keys used) ≡ countInUse used
+herdOf-length keys used = length-herdFrom (keyAt keys) 0 used
