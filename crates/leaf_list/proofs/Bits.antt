@@ -27,7 +27,8 @@ value-cons (suc (suc q)) k h = absurd (omega arith)
 -- The value of the last n bits of a number.
 pub value-bits : (n x : ℕ) → value (bits n x) ≡ x % 2 ^ n
 value-bits zero x = omega arith
-value-bits (suc n) x = value-cons (x / 2 ^ n % 2) (bits n x) (mod-lt (x / 2 ^ n) (omega arith)) ∙ rw (bits-length n x, value-bits n x, ← (mod-pow-add x 1 n), one-add n)
+value-bits (suc n) x =
+    value-cons (x / 2 ^ n % 2) (bits n x) (mod-lt (x / 2 ^ n) (omega arith)) ∙ rw (bits-length n x, value-bits n x, ← (mod-pow-add x 1 n), one-add n)
 
 -- A number of n bits is the value of its bits.
 pub value-number : (n x : ℕ) → x < 2 ^ n → value (bits n x) ≡ x
@@ -131,7 +132,9 @@ pub setBit-value : (D : Key) (d j : ℕ) → length D ≡ d + suc j → value (s
 setBit-value [] d j h = absurd (omega arith)
 setBit-value (x ∷ D) zero j h =
     let e : length D ≡ j = omega arith in
-    rw (div-eq-of-lt (subst (λ (i : ℕ). value (x ∷ D) < 2 ^ suc i) e (value-bound (x ∷ D))), zero-mul, zeroBits-length (length D), value-zeroBits (length D), e) (omega arith)
+    rw
+    (div-eq-of-lt (subst (λ (i : ℕ). value (x ∷ D) < 2 ^ suc i) e (value-bound (x ∷ D))), zero-mul, zeroBits-length (length D), value-zeroBits (length D), e)
+    (omega arith)
 setBit-value (false ∷ D) (suc d) j h = setBit-value D d j (omega arith)
 setBit-value (true ∷ D) (suc d) j h =
     let e : length D ≡ d + suc j = omega arith in

@@ -51,11 +51,13 @@ module _ (w : ℕ) (keyOf : ℕ → ℕ) (used : ℕ → Bool) where
 
   -- After the closing entry nothing may follow.
   run-closed : (s : State) (d : ℕ) (p : Option ℕ) (rest : List Entry) → s .closed ≡ false → eqb d 0 ≡ true
-      → (run w keyOf used s (entry d p ∷ rest) .fits && run w keyOf used s (entry d p ∷ rest) .closed) ≡ (s .fits && (entryFits w keyOf used (s .disc) (s .trail) (s .dummy) d p && isEmpty rest))
+      → (run w keyOf used s (entry d p ∷ rest) .fits && run w keyOf used s (entry d p ∷ rest) .closed)
+      ≡ (s .fits && (entryFits w keyOf used (s .disc) (s .trail) (s .dummy) d p && isEmpty rest))
   run-closed s d p [] h z = regroup (s .fits) (s .closed) (entryFits w keyOf used (s .disc) (s .trail) (s .dummy) d p) (eqb d 0) true h z
   run-closed s d p (entry d′ p′ ∷ rest) h z =
       let s′ = step w keyOf used s (entry d p) in
-      let y : run w keyOf used (step w keyOf used s′ (entry d′ p′)) rest .fits ≡ false = run-lost rest (step w keyOf used s′ (entry d′ p′)) (closed-fails (s′ .fits) (s′ .closed) (entryFits w keyOf used (s′ .disc) (s′ .trail) (s′ .dummy) d′ p′) z) in
+      let y : run w keyOf used (step w keyOf used s′ (entry d′ p′)) rest .fits ≡ false =
+      run-lost rest (step w keyOf used s′ (entry d′ p′)) (closed-fails (s′ .fits) (s′ .closed) (entryFits w keyOf used (s′ .disc) (s′ .trail) (s′ .dummy) d′ p′) z) in
       rw (y, and-false (entryFits w keyOf used (s .disc) (s .trail) (s .dummy) d p), and-false (s .fits))
 
   -- The run does the test of the entries.
@@ -66,18 +68,26 @@ module _ (w : ℕ) (keyOf : ℕ → ℕ) (used : ℕ → Bool) where
     where
       go : (b : Bool) → eqb d 0 ≡ b
           → (eqb d 0 ≡ false → (run w keyOf used s (entry d p ∷ rest) .fits && run w keyOf used s (entry d p ∷ rest) .closed)
-          ≡ ((s .fits && (not (s .closed) && entryFits w keyOf used (s .disc) (s .trail) (s .dummy) d p)) && fittingTest w keyOf used (cond (eqb d 0) 0 (setBitAt w d (s .disc))) d (isNil p) rest))
+          ≡
+          ((s .fits && (not (s .closed) && entryFits w keyOf used (s .disc) (s .trail) (s .dummy) d p))
+          && fittingTest w keyOf used (cond (eqb d 0) 0 (setBitAt w d (s .disc))) d (isNil p) rest))
           → (run w keyOf used s (entry d p ∷ rest) .fits && run w keyOf used s (entry d p ∷ rest) .closed)
-          ≡ (s .fits && (entryFits w keyOf used (s .disc) (s .trail) (s .dummy) d p && cond b (isEmpty rest) (fittingTest w keyOf used (setBitAt w d (s .disc)) d (isNil p) rest)))
+          ≡
+          (s .fits && (entryFits w keyOf used (s .disc) (s .trail) (s .dummy) d p
+          && cond b (isEmpty rest) (fittingTest w keyOf used (setBitAt w d (s .disc)) d (isNil p) rest)))
       go true z ih = run-closed s d p rest h z
       go false z ih =
           ih z
-          ∙ regroup (s .fits) (s .closed) (entryFits w keyOf used (s .disc) (s .trail) (s .dummy) d p) (fittingTest w keyOf used (cond (eqb d 0) 0 (setBitAt w d (s .disc))) d (isNil p) rest)
-          (fittingTest w keyOf used (setBitAt w d (s .disc)) d (isNil p) rest) h (ap (λ (b : Bool). fittingTest w keyOf used (cond b 0 (setBitAt w d (s .disc))) d (isNil p) rest) z)
+          ∙ regroup (s .fits) (s .closed) (entryFits w keyOf used (s .disc) (s .trail) (s .dummy) d p)
+          (fittingTest w keyOf used (cond (eqb d 0) 0 (setBitAt w d (s .disc))) d (isNil p) rest)
+          (fittingTest w keyOf used (setBitAt w d (s .disc)) d (isNil p) rest) h
+          (ap (λ (b : Bool). fittingTest w keyOf used (cond b 0 (setBitAt w d (s .disc))) d (isNil p) rest) z)
 
 module _ (w : ℕ) (keys used : List ℕ) (narrow : (r : ℕ) → inUse used r ≡ true → keyAt keys r < 2 ^ w) where
   -- From the start,
-  run-from-start : (es : List Entry) → (run w (keyAt keys) (inUse used) start es .fits && run w (keyAt keys) (inUse used) start es .closed) ≡ fittingTest w (keyAt keys) (inUse used) (value (zeroBits w)) 0 false es
+  run-from-start : (es : List Entry)
+      → (run w (keyAt keys) (inUse used) start es .fits && run w (keyAt keys) (inUse used) start es .closed)
+      ≡ fittingTest w (keyAt keys) (inUse used) (value (zeroBits w)) 0 false es
   run-from-start es = run-test w (keyAt keys) (inUse used) es start refl ∙ rw (value-zeroBits w)
 
   -- with the live entries of the list.

@@ -21,7 +21,9 @@ use Rattle.leaf_list.proofs.Check.{run-append, run-lost}
 
 -- The discriminator stays within w bits.
 pub setBitAt-bound : (w d D : ℕ) → D < 2 ^ w → suc d ≤ w → setBitAt w (suc d) D < 2 ^ w
-setBitAt-bound w d D h l = subst (λ (x : ℕ). x < 2 ^ w) e (subst (λ (n : ℕ). value (setBit (suc d) (bits w D)) < 2 ^ n) (setBit-length (suc d) (bits w D) ∙ bits-length w D) (value-bound (setBit (suc d) (bits w D))))
+setBitAt-bound w d D h l =
+    subst (λ (x : ℕ). x < 2 ^ w) e
+    (subst (λ (n : ℕ). value (setBit (suc d) (bits w D)) < 2 ^ n) (setBit-length (suc d) (bits w D) ∙ bits-length w D) (value-bound (setBit (suc d) (bits w D))))
   where
     e : value (setBit (suc d) (bits w D)) ≡ setBitAt w (suc d) D
     e = setBit-number w d (bits w D) (bits-length w D) l ∙ ap (setBitAt w (suc d)) (value-number w D h)
@@ -53,7 +55,8 @@ abbrev pub Bounded : ℕ → State → Type 0
 Bounded w s = (s .disc < 2 ^ w) × (s .trail ≤ w)
 
 -- They do so after an entry of depth at most w.
-pub step-bounded : (w : ℕ) (keyOf : ℕ → ℕ) (used : ℕ → Bool) (s : State) (d : ℕ) (p : Option ℕ) → Bounded w s → d ≤ w → Bounded w (step w keyOf used s (entry d p))
+pub step-bounded : (w : ℕ) (keyOf : ℕ → ℕ) (used : ℕ → Bool) (s : State) (d : ℕ) (p : Option ℕ) → Bounded w s → d ≤ w
+    → Bounded w (step w keyOf used s (entry d p))
 step-bounded w keyOf used s zero p b h = (pow-pos w, h)
 step-bounded w keyOf used s (suc d) p b h = (rw (ne-eqb (suc d) 0 (omega arith)) (setBitAt-bound w d (s .disc) (b .0) h), h)
 
@@ -65,7 +68,8 @@ run-turn w keyOf used s es i h = rw (drop-cons es i (entry 0 none) h)
 -- One turn, by what is done.
 pub run-more : (w : ℕ) (keyOf : ℕ → ℕ) (used : ℕ → Bool) (s : State) (es : List Entry) (i : ℕ) → i < length es
     → run w keyOf used s (take (suc i) es) ≡ step w keyOf used (run w keyOf used s (take i es)) (getD es i (entry 0 none))
-run-more w keyOf used s es i h = ap (run w keyOf used s) (take-suc es i (entry 0 none) h) ∙ run-append w keyOf used (take i es) (getD es i (entry 0 none) ∷ []) s
+run-more w keyOf used s es i h =
+    ap (run w keyOf used s) (take-suc es i (entry 0 none) h) ∙ run-append w keyOf used (take i es) (getD es i (entry 0 none) ∷ []) s
 
 -- Where an entry did not fit, the answer is no.
 pub run-fails : (w : ℕ) (keyOf : ℕ → ℕ) (used : ℕ → Bool) (s : State) (es : List Entry) (n : ℕ) → s .fits ≡ false → passes (run w keyOf used s es) n ≡ false

@@ -24,7 +24,8 @@ isEmpty (e ∷ rest) = false
 -- The entries from here on fit, and the depth 0 is their last, as a test by numbers.
 abbrev pub fittingTest : ℕ → (ℕ → ℕ) → (ℕ → Bool) → ℕ → ℕ → Bool → List Entry → Bool
 fittingTest w keyOf used D τ dummy [] = false
-fittingTest w keyOf used D τ dummy (entry d p ∷ rest) = entryFits w keyOf used D τ dummy d p && cond (eqb d 0) (isEmpty rest) (fittingTest w keyOf used (setBitAt w d D) d (isNil p) rest)
+fittingTest w keyOf used D τ dummy (entry d p ∷ rest) =
+    entryFits w keyOf used D τ dummy d p && cond (eqb d 0) (isEmpty rest) (fittingTest w keyOf used (setBitAt w d D) d (isNil p) rest)
 
 -- Where the first of two tests does not hold, the second does.
 pub or-second : (a b : Bool) → (a || b) ≡ true → a ≡ false → b ≡ true
@@ -88,16 +89,19 @@ module _ (w : ℕ) (keyOf : ℕ → ℕ) (used : ℕ → Bool) (narrow : (r : �
   bits-agree D r l e h u q = sym (first-bits r l u h) ∙ ap value q ∙ value-take D l (w - l) (omega arith)
 
   -- A pointer that passes the test fits,
-  pointer-says : (D : Key) (τ d : ℕ) (p : Option ℕ) → length D ≡ w → τ ≤ w → d ≤ w → pointerFits w keyOf used (value D) τ d p ≡ true → PointerFits (bitsOf w keyOf) used D τ d p
+  pointer-says : (D : Key) (τ d : ℕ) (p : Option ℕ) → length D ≡ w → τ ≤ w → d ≤ w → pointerFits w keyOf used (value D) τ d p ≡ true
+      → PointerFits (bitsOf w keyOf) used D τ d p
   pointer-says D τ d none e hτ hd q = λ i. ltb-true τ d (or-second (eqb τ 0) (ltb τ d) q (ne-eqb τ 0 i))
   pointer-says D τ d (some r) e hτ hd q =
       let parts = and-eq-true-iff (used r) (eqb (keyOf r / 2 ^ (w - max τ d)) (value D / 2 ^ (w - max τ d))) .0 q in
       (parts .0, agree-bits D r (max τ d) e (omega arith) (parts .0) (eqb-true (keyOf r / 2 ^ (w - max τ d)) (value D / 2 ^ (w - max τ d)) (parts .1)))
 
   -- and one that fits passes.
-  pointer-met : (D : Key) (τ d : ℕ) (p : Option ℕ) → length D ≡ w → τ ≤ w → d ≤ w → PointerFits (bitsOf w keyOf) used D τ d p → pointerFits w keyOf used (value D) τ d p ≡ true
+  pointer-met : (D : Key) (τ d : ℕ) (p : Option ℕ) → length D ≡ w → τ ≤ w → d ≤ w → PointerFits (bitsOf w keyOf) used D τ d p
+      → pointerFits w keyOf used (value D) τ d p ≡ true
   pointer-met D τ d none e hτ hd q = second-or (eqb τ 0) (ltb τ d) (λ z. lt-ltb τ d (q (eqb-false τ 0 z)))
-  pointer-met D τ d (some r) e hτ hd q = rw (q .0) (eq-eqb (keyOf r / 2 ^ (w - max τ d)) (value D / 2 ^ (w - max τ d)) (bits-agree D r (max τ d) e (omega arith) (q .0) (q .1)))
+  pointer-met D τ d (some r) e hτ hd q =
+      rw (q .0) (eq-eqb (keyOf r / 2 ^ (w - max τ d)) (value D / 2 ^ (w - max τ d)) (bits-agree D r (max τ d) e (omega arith) (q .0) (q .1)))
 
   -- Bit d of the number is bit d of the key.
   bitAt-bits : (D : Key) (d : ℕ) → length D ≡ w → suc d ≤ w → bitAt w (suc d) (value D) ≡ bitOf (suc d) D
@@ -133,7 +137,9 @@ module _ (w : ℕ) (keyOf : ℕ → ℕ) (used : ℕ → Bool) (narrow : (r : �
   fitting-test [] D τ dummy e hτ s = absurd s
   fitting-test (entry zero p ∷ rest) D τ dummy e hτ s =
       let f : EntryFits w keyOf used (value D) τ dummy 0 p =
-      record { within = omega arith; clear = λ z. absurd (z refl); after-dummy = λ i. absurd (true≢false (sym i ∙ s .1)); pointer = pointer-met D τ 0 p e hτ (omega arith) (s .2) } in
+      record
+      { within = omega arith; clear = λ z. absurd (z refl); after-dummy = λ i. absurd (true≢false (sym i ∙ s .1)); pointer = pointer-met D τ 0 p e hτ (omega arith) (s .2) }
+      in
       rw (s .0, entryFits-met w keyOf used (value D) τ dummy 0 p f)
   fitting-test (entry (suc d) p ∷ rest) D τ dummy e hτ s =
       let f : EntryFits w keyOf used (value D) τ dummy (suc d) p =

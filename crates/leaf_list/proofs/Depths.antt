@@ -39,7 +39,8 @@ front-deeper (leaf k r) l = tt
 front-deeper (zero-only t) l = deeper-less l (frontOf (suc l) t) (front-deeper t (suc l))
 front-deeper (one-only t) l = (omega arith, deeper-less l (frontOf (suc l) t) (front-deeper t (suc l)))
 front-deeper (fork a b) l =
-    all-append (λ e. l < depthOf e) (frontOf (suc l) a) (entry (suc l) (some (lastRecord a)) ∷ frontOf (suc l) b) (deeper-less l (frontOf (suc l) a) (front-deeper a (suc l)))
+    all-append (λ e. l < depthOf e) (frontOf (suc l) a) (entry (suc l) (some (lastRecord a)) ∷ frontOf (suc l) b)
+    (deeper-less l (frontOf (suc l) a) (front-deeper a (suc l)))
     (omega arith, deeper-less l (frontOf (suc l) b) (front-deeper b (suc l)))
 
 -- No depth is above w.
@@ -55,7 +56,8 @@ depthsWithin-write (fork a b) zero w l c rest f h hc hR = absurd f
 depthsWithin-write (zero-only t) (suc n) w l c rest f h hc hR = depthsWithin-write t n w (suc l) c rest f (omega arith) hc hR
 depthsWithin-write (one-only t) (suc n) w l c rest f h hc hR = (omega arith, depthsWithin-write t n w (suc l) c rest f (omega arith) hc hR)
 depthsWithin-write (fork a b) (suc n) w l c rest f h hc hR =
-    depthsWithin-write a n w (suc l) (suc l) (write (suc l) b c rest) (f .0) (omega arith) (omega arith) (depthsWithin-write b n w (suc l) c rest (f .1) (omega arith) hc hR)
+    depthsWithin-write a n w (suc l) (suc l) (write (suc l) b c rest) (f .0) (omega arith) (omega arith)
+    (depthsWithin-write b n w (suc l) c rest (f .1) (omega arith) hc hR)
 
 -- The depths of a whole trie.
 pub depthsWithin-writeAll : (n : ℕ) (o : Option Trie) → Given (Sized n) o → DepthsWithin n (writeAll o)
@@ -75,7 +77,8 @@ module _ {A : Type 0} (depth : A → ℕ) where
   closed-cons c x (y ∷ xs) h g = (h, g)
 
 -- The entries of a node before a closed row.
-pub closed-write : (t : Trie) (l b c : ℕ) (rest : List Entry) → b ≤ l → Closed depthOf b (entry c (some (lastRecord t)) ∷ rest) → Closed depthOf b (write l t c rest)
+pub closed-write : (t : Trie) (l b c : ℕ) (rest : List Entry) → b ≤ l → Closed depthOf b (entry c (some (lastRecord t)) ∷ rest)
+    → Closed depthOf b (write l t c rest)
 closed-write (leaf k r) l b c rest h g = g
 closed-write (zero-only t) l b c rest h g = closed-write t (suc l) b c rest (omega arith) g
 closed-write (one-only t) l b c rest h g =
@@ -128,6 +131,9 @@ neighbours-tail e (f ∷ es) n = n .1
 pub neighbours-writeAll : (o : Option Trie) → Given Pruned o → Neighbours (writeAll o)
 neighbours-writeAll none g = tt
 neighbours-writeAll (some (leaf k r)) g = tt
-neighbours-writeAll (some (zero-only t)) g = neighbours-tail (entry 0 none) (write 0 (zero-only t) 0 []) (neighbours-write (zero-only t) 0 0 0 none [] g (omega arith) (omega arith) tt tt)
-neighbours-writeAll (some (one-only t)) g = neighbours-tail (entry 0 none) (write 0 (one-only t) 0 []) (neighbours-write (one-only t) 0 0 0 none [] g (omega arith) (omega arith) tt tt)
-neighbours-writeAll (some (fork a b)) g = neighbours-tail (entry 0 none) (write 0 (fork a b) 0 []) (neighbours-write (fork a b) 0 0 0 none [] g (omega arith) (omega arith) tt tt)
+neighbours-writeAll (some (zero-only t)) g =
+    neighbours-tail (entry 0 none) (write 0 (zero-only t) 0 []) (neighbours-write (zero-only t) 0 0 0 none [] g (omega arith) (omega arith) tt tt)
+neighbours-writeAll (some (one-only t)) g =
+    neighbours-tail (entry 0 none) (write 0 (one-only t) 0 []) (neighbours-write (one-only t) 0 0 0 none [] g (omega arith) (omega arith) tt tt)
+neighbours-writeAll (some (fork a b)) g =
+    neighbours-tail (entry 0 none) (write 0 (fork a b) 0 []) (neighbours-write (fork a b) 0 0 0 none [] g (omega arith) (omega arith) tt tt)

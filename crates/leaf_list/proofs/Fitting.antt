@@ -26,7 +26,8 @@ abbrev pub Fitting : ℕ → (ℕ → Key) → (ℕ → Bool) → Key → ℕ �
 Fitting w keyOf used D τ dummy [] = ⊥
 Fitting w keyOf used D τ dummy (entry zero p ∷ rest) = (rest ≡ []) × (dummy ≡ false) × PointerFits keyOf used D τ zero p
 Fitting w keyOf used D τ dummy (entry (suc d) p ∷ rest) =
-    (suc d ≤ w) × (bitOf (suc d) D ≡ false) × (dummy ≡ true → τ < suc d) × PointerFits keyOf used D τ (suc d) p × Fitting w keyOf used (setBit (suc d) D) (suc d) (isNil p) rest
+    (suc d ≤ w) × (bitOf (suc d) D ≡ false) × (dummy ≡ true → τ < suc d) × PointerFits keyOf used D τ (suc d) p × Fitting w keyOf used
+    (setBit (suc d) D) (suc d) (isNil p) rest
 
 -- The records of the trie are in use and have the keys that it says.
 abbrev pub RecordsFit : (ℕ → Key) → (ℕ → Bool) → Key → Trie → Type 0
@@ -66,19 +67,22 @@ module _ (w : ℕ) (keyOf : ℕ → Key) (used : ℕ → Bool) where
   FittingAfter D (suc c) rest = (bitOf (suc c) D ≡ false) × Fitting w keyOf used (setBit (suc c) D) (suc c) false rest
 
   -- The bits past the path do not count there.
-  after-path : (u e e′ : Key) (c : ℕ) (rest : List Entry) → length e ≡ length e′ → c ≤ length u → FittingAfter (reverseAux u e) c rest → FittingAfter (reverseAux u e′) c rest
+  after-path : (u e e′ : Key) (c : ℕ) (rest : List Entry) → length e ≡ length e′ → c ≤ length u → FittingAfter (reverseAux u e) c rest
+      → FittingAfter (reverseAux u e′) c rest
   after-path u e e′ zero rest l h q = q
   after-path u e e′ (suc c) rest l h q = (bitOf-within u e′ e c h ∙ q .0, rw (setBit-within u e′ e c (sym l) h) (q .1))
 
   -- A record at its leaf.
-  pointer-here : (u k e : Key) (r τ c : ℕ) → max τ c ≡ length u → used r ≡ true → keyOf r ≡ reverseAux u k → PointerFits keyOf used (reverseAux u e) τ c (some r)
+  pointer-here : (u k e : Key) (r τ c : ℕ) → max τ c ≡ length u → used r ≡ true → keyOf r ≡ reverseAux u k
+      → PointerFits keyOf used (reverseAux u e) τ c (some r)
   pointer-here u k e r τ c h g q = (g, rw (h, q, take-path u k, take-path u e))
 
   -- The entries of a node fit.
   pub fitting-node : (t : Trie) (u : Key) (n τ c : ℕ) (dummy : Bool) (rest : List Entry)
       → Pruned t → Sized n t → RecordsFit keyOf used u t → length u + n ≡ w → c ≤ length u → τ ≤ length u → AtLeaf (LeafFits τ c (length u) dummy) t
       → FittingAfter (reverseAux u (zeroBits n)) c rest → Fitting w keyOf used (reverseAux u (zeroBits n)) τ dummy (write (length u) t c rest)
-  fitting-node (leaf k r) u n τ zero dummy rest g f h e hc hτ s q = (q, not-then-false dummy (λ i. omega (arith, s .1 i)), pointer-here u k (zeroBits n) r τ 0 (s .0) (h .0) (h .1))
+  fitting-node (leaf k r) u n τ zero dummy rest g f h e hc hτ s q =
+      (q, not-then-false dummy (λ i. omega (arith, s .1 i)), pointer-here u k (zeroBits n) r τ 0 (s .0) (h .0) (h .1))
   fitting-node (leaf k r) u n τ (suc c) dummy rest g f h e hc hτ s q =
       (omega arith, q .0, s .1, pointer-here u k (zeroBits n) r τ (suc c) (s .0) (h .0) (h .1), q .1)
   fitting-node (zero-only t) u zero τ c dummy rest g f h e hc hτ s q = absurd f
@@ -150,7 +154,8 @@ module _ (w : ℕ) (keyOf : ℕ → Key) (used : ℕ → Bool) where
   module _ (lengths : (r : ℕ) → length (keyOf r) ≡ w) where
     -- A live entry whose leaf stands at the node.
     read-record : (u : Key) (n τ d r : ℕ) (rest : List Entry) → length u + n ≡ w → τ ≤ length u → d ≤ length u → length u ≤ max τ d
-        → PointerFits keyOf used (reverseAux u (zeroBits n)) τ d (some r) → FittingAfter (reverseAux u (zeroBits n)) d rest → NodeRead u n (entry d (some r) ∷ rest)
+        → PointerFits keyOf used (reverseAux u (zeroBits n)) τ d (some r) → FittingAfter (reverseAux u (zeroBits n)) d rest
+        → NodeRead u n (entry d (some r) ∷ rest)
     read-record u n τ d r rest e hτ hd hm f q =
         let z : max τ d ≡ length u = omega arith in
         record {
@@ -166,7 +171,8 @@ module _ (w : ℕ) (keyOf : ℕ → Key) (used : ℕ → Bool) where
         }
 
     -- An entry no deeper than the node is its only one.
-    read-leaf : (u : Key) (n τ d : ℕ) (dummy : Bool) (p : Option ℕ) (rest : List Entry) → length u + n ≡ w → τ ≤ length u → d ≤ length u → Opens (length u) τ (entry d p ∷ rest)
+    read-leaf : (u : Key) (n τ d : ℕ) (dummy : Bool) (p : Option ℕ) (rest : List Entry) → length u + n ≡ w → τ ≤ length u → d ≤ length u
+        → Opens (length u) τ (entry d p ∷ rest)
         → Fitting w keyOf used (reverseAux u (zeroBits n)) τ dummy (entry d p ∷ rest) → NodeRead u n (entry d p ∷ rest)
     read-leaf u n τ d dummy none rest e hτ hd o s = absurd (omega arith)
     read-leaf u n τ zero dummy (some r) rest e hτ hd o s = read-record u n τ 0 r rest e hτ hd o (s .2) (s .0)
@@ -174,7 +180,8 @@ module _ (w : ℕ) (keyOf : ℕ → Key) (used : ℕ → Bool) where
 
     -- A dummy of the next depth: all keys go on with 1.
     read-one-only : (n : ℕ) → Reads n → (u : Key) (τ : ℕ) (dummy : Bool) (rest : List Entry) → length u + suc n ≡ w → τ ≤ length u
-        → Fitting w keyOf used (reverseAux u (zeroBits (suc n))) τ dummy (entry (suc (length u)) none ∷ rest) → NodeRead u (suc n) (entry (suc (length u)) none ∷ rest)
+        → Fitting w keyOf used (reverseAux u (zeroBits (suc n))) τ dummy (entry (suc (length u)) none ∷ rest)
+        → NodeRead u (suc n) (entry (suc (length u)) none ∷ rest)
     read-one-only n ih u τ dummy rest e hτ s =
         go (ih (true ∷ u) (suc (length u)) true rest (omega arith) (omega arith) (opens-one (reverseAux (true ∷ u) (zeroBits n)) (length u) true rest s′) s′)
       where
@@ -191,7 +198,8 @@ module _ (w : ℕ) (keyOf : ℕ → Key) (used : ℕ → Bool) where
               rest = N .rest;
               written = ap (λ (x : List Entry). entry (suc (length u)) none ∷ x) (N .written);
               pruned = (
-                branching-deeper (N .trie) (suc (length u)) (suc (length u)) (N .c) (N .rest) (N .low) (subst (StartsDeeper (suc (length u))) (N .written) deep),
+                branching-deeper (N .trie) (suc (length u)) (suc (length u)) (N .c) (N .rest) (N .low)
+                    (subst (StartsDeeper (suc (length u))) (N .written) deep),
                 N .pruned,
               );
               sized = N .sized;
@@ -221,7 +229,8 @@ module _ (w : ℕ) (keyOf : ℕ → Key) (used : ℕ → Bool) where
               after = after-path u (true ∷ zeroBits n) (false ∷ zeroBits n) (M .c) (M .rest) refl h (M .after);
             }
 
-        one-side : (N : NodeRead (false ∷ u) n es) → N .c ≡ suc (length u) → Fitting w keyOf used (reverseAux (true ∷ u) (zeroBits n)) (suc (length u)) false (N .rest)
+        one-side : (N : NodeRead (false ∷ u) n es) → N .c ≡ suc (length u)
+            → Fitting w keyOf used (reverseAux (true ∷ u) (zeroBits n)) (suc (length u)) false (N .rest)
         one-side N z =
             let y : FittingAfter (reverseAux (false ∷ u) (zeroBits n)) (suc (length u)) (N .rest) = rw z at (N .after) in
             rw (setBit-here u false (zeroBits n) n (zeroBits-length n)) at (y .1)
@@ -243,7 +252,8 @@ module _ (w : ℕ) (keyOf : ℕ → Key) (used : ℕ → Bool) where
         side N false z =
             let h : N .c ≡ suc (length u) = omega (arith, leb-false (N .c) (length u) z, N .low) in
             let s′ = one-side N h in
-            both N h (ih (true ∷ u) (suc (length u)) false (N .rest) (omega arith) (omega arith) (opens-one (reverseAux (true ∷ u) (zeroBits n)) (length u) false (N .rest) s′) s′)
+            both N h
+            (ih (true ∷ u) (suc (length u)) false (N .rest) (omega arith) (omega arith) (opens-one (reverseAux (true ∷ u) (zeroBits n)) (length u) false (N .rest) s′) s′)
 
         go : NodeRead (false ∷ u) n es → NodeRead u (suc n) es
         go N = side N (leb (N .c) (length u)) refl
@@ -270,7 +280,8 @@ module _ (w : ℕ) (keyOf : ℕ → Key) (used : ℕ → Bool) where
     -- With no bits left stands a leaf.
     read-no-bits : Reads zero
     read-no-bits u τ dummy [] e hτ o s = absurd o
-    read-no-bits u τ dummy (entry d p ∷ rest) e hτ o s = read-leaf u zero τ d dummy p rest e hτ (omega (arith, fitting-depth (reverseAux u []) τ d dummy p rest s)) o s
+    read-no-bits u τ dummy (entry d p ∷ rest) e hτ o s =
+        read-leaf u zero τ d dummy p rest e hτ (omega (arith, fitting-depth (reverseAux u []) τ d dummy p rest s)) o s
 
     -- One bit more.
     read-bit : (n : ℕ) → Reads n → Reads (suc n)

@@ -37,7 +37,8 @@ bitsOf w keyOf r = bits w (keyOf r)
 
 module _ (w : ℕ) (keyOf : ℕ → ℕ) (used : ℕ → Bool) where
   -- The keys of a trie whose records fit are its records' keys.
-  leaves-items : (t : Trie) (u : Key) (rs : List ℕ) → RecordsFit (bitsOf w keyOf) used u t → leaves (reverseAux u) t (items w (herdWith keyOf rs)) ≡ items w (herdWith keyOf (trieRecords t rs))
+  leaves-items : (t : Trie) (u : Key) (rs : List ℕ) → RecordsFit (bitsOf w keyOf) used u t
+      → leaves (reverseAux u) t (items w (herdWith keyOf rs)) ≡ items w (herdWith keyOf (trieRecords t rs))
   leaves-items (leaf k r) u rs h = ap (λ (x : Key). item x r ∷ items w (herdWith keyOf rs)) (sym (h .1))
   leaves-items (zero-only t) u rs h = leaves-items t (false ∷ u) rs h
   leaves-items (one-only t) u rs h = leaves-items t (true ∷ u) rs h
@@ -52,7 +53,8 @@ module _ (w : ℕ) (keyOf : ℕ → ℕ) (used : ℕ → Bool) where
   records-in-use (fork p q) u rs h a = records-in-use p (false ∷ u) (trieRecords q rs) (h .0) (records-in-use q (true ∷ u) rs (h .1) a)
 
   -- Records in use with the keys that the trie says fit.
-  records-fit : (t : Trie) (u : Key) (rs : List ℕ) → KeysIn (bitsOf w keyOf) u t → AllInUse used (trieRecords t rs) → RecordsFit (bitsOf w keyOf) used u t × AllInUse used rs
+  records-fit : (t : Trie) (u : Key) (rs : List ℕ) → KeysIn (bitsOf w keyOf) u t → AllInUse used (trieRecords t rs)
+      → RecordsFit (bitsOf w keyOf) used u t × AllInUse used rs
   records-fit (leaf k r) u rs h a = ((a .0, h), a .1)
   records-fit (zero-only t) u rs h a = records-fit t (false ∷ u) rs h a
   records-fit (one-only t) u rs h a = records-fit t (true ∷ u) rs h a
@@ -92,7 +94,8 @@ module _ (w : ℕ) (keyOf : ℕ → ℕ) (used : ℕ → Bool) where
         let i : leaves (λ k. k) t [] ≡ items w (herdWith keyOf (trieRecords t [])) = leaves-items t [] [] h in
         rw e (
           sym (ap writeAll (ap (trieOf w) (sym i) ∙ trieOf-leaves t w f g)),
-          ordered-sorted (herdWith keyOf (trieRecords t [])) (narrow-with (trieRecords t []) (records-in-use t [] [] h tt)) (subst Ordered i (ordered-leaves t (λ k. k) [] (λ k k′. refl) tt (λ k. tt))),
+          ordered-sorted (herdWith keyOf (trieRecords t [])) (narrow-with (trieRecords t []) (records-in-use t [] [] h tt))
+              (subst Ordered i (ordered-leaves t (λ k. k) [] (λ k k′. refl) tt (λ k. tt))),
           records-in-use t [] [] h tt,
         )
 
@@ -116,13 +119,17 @@ module _ (w : ℕ) (keyOf : ℕ → ℕ) (used : ℕ → Bool) where
     fitting-own (entry d (some r) ∷ rest) s = own-root (entry d (some r) ∷ rest) (omega arith) s
 
   -- A leaf list fits.
-  pub own-fitting : (s : Herd) → KeysOf keyOf s → AllInUse used (recordsOf s) → Narrow w s → Sorted s → Fitting w (bitsOf w keyOf) used (zeroBits w) 0 false (trieList w s)
-  own-fitting s k a q o = go (trieOf w (items w s)) (trieOf-pruned w (items w s)) (trieOf-sized w (items w s) (items-lengths w s)) (trieOf-keys (bitsOf w keyOf) w [] (items w s) (items-keys w keyOf s k)) b
+  pub own-fitting : (s : Herd) → KeysOf keyOf s → AllInUse used (recordsOf s) → Narrow w s → Sorted s
+      → Fitting w (bitsOf w keyOf) used (zeroBits w) 0 false (trieList w s)
+  own-fitting s k a q o =
+      go (trieOf w (items w s)) (trieOf-pruned w (items w s)) (trieOf-sized w (items w s) (items-lengths w s))
+      (trieOf-keys (bitsOf w keyOf) w [] (items w s) (items-keys w keyOf s k)) b
     where
       b : AllInUse used (optionRecords (trieOf w (items w s)) [])
       b = rw (trieOf-records w (items w s) [] (items-lengths w s) (items-ordered w s q o), records-herd w s) a
 
-      go : (t : Option Trie) → Given Pruned t → Given (Sized w) t → Given (KeysIn (bitsOf w keyOf) []) t → AllInUse used (optionRecords t []) → Fitting w (bitsOf w keyOf) used (zeroBits w) 0 false (writeAll t)
+      go : (t : Option Trie) → Given Pruned t → Given (Sized w) t → Given (KeysIn (bitsOf w keyOf) []) t → AllInUse used (optionRecords t [])
+          → Fitting w (bitsOf w keyOf) used (zeroBits w) 0 false (writeAll t)
       go none g f r a = (refl, refl, λ i. absurd (i refl))
       go (some t) g f r a =
           fitting-node w (bitsOf w keyOf) used t [] w 0 0 false [] g f (records-fit t [] [] r a .0) (zero-add w) (omega arith) (omega arith)

@@ -85,7 +85,8 @@ module _ (keyOf : ℕ → Key) where
       other-node a (false ∷ u) k (suc (length u)) before (write (suc (length u)) b c rest) f (g .0) (q .0) (omega arith) (omega arith)
       (at-leaf _ a (omega arith))
   other-node (fork a b) u (true ∷ k) c before rest f g q hc hτ e =
-      other-node b (true ∷ u) k c (entry (suc (length u)) (some (lastRecord a)) ∷ passFront (suc (length u)) a before) rest f (g .1) (q .1) (omega arith) (omega arith)
+      other-node b (true ∷ u) k c (entry (suc (length u)) (some (lastRecord a)) ∷ passFront (suc (length u)) a before) rest f (g .1) (q .1)
+      (omega arith) (omega arith)
       (at-leaf _ b (omega arith))
 
   -- The entry found in a whole trie.

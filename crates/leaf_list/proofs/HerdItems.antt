@@ -52,7 +52,8 @@ pub items-remove : (w k r : ℕ) (s : Herd) → lookup k s ≡ some r → With (
 items-remove w k r [] e = absurd (let z : _≡_ {A = ℕ} 0 1 = cc in omega arith)
 items-remove w k r (x ∷ s) e = go (eqb k x.0) refl e (λ e′. items-remove w k r s e′)
   where
-    go : (t : Bool) → eqb k x.0 ≡ t → cond t (some x.1) (lookup k s) ≡ some r → (lookup k s ≡ some r → With (item (bits w k) r) (items w (remove k s)) (items w s))
+    go : (t : Bool) → eqb k x.0 ≡ t → cond t (some x.1) (lookup k s) ≡ some r
+        → (lookup k s ≡ some r → With (item (bits w k) r) (items w (remove k s)) (items w s))
         → With (item (bits w k) r) (items w (cond t s (x ∷ remove k s))) (items w (x ∷ s))
     go true q e ih =
         let z : x.1 ≡ r = cc in
@@ -85,7 +86,8 @@ insertion-trieList keyOf w k r s h q g e =
 pub deletion-trieList : (w k r : ℕ) (s : Herd) → k < 2 ^ w → Narrow w s → Sorted s → lookup k s ≡ some r
     → deletion (bits w k) (trieList w s) ≡ trieList w (remove k s)
 deletion-trieList w k r s h q o e =
-    deletion-items w (bits w k) r (items w (remove k s)) (items w s) (items-remove w k r s e) (bits-length w k) (items-lengths w (remove k s)) (items-lengths w s)
+    deletion-items w (bits w k) r (items w (remove k s)) (items w s) (items-remove w k r s e) (bits-length w k) (items-lengths w (remove k s))
+    (items-lengths w s)
     (items-noKey w k (remove k s) h (narrow-remove w k s q) (absent-remove k s o))
 
 -- Search finds what the herd holds.
@@ -94,9 +96,12 @@ pub find-trieList : (keyOf : ℕ → ℕ) (w k : ℕ) (s : Herd) → k < 2 ^ w �
 find-trieList keyOf w k s h q o g = go (lookup k s) refl
   where
     go : (a : Option ℕ) → lookup k s ≡ a → find (λ x. bits w (keyOf x)) (bits w k) (trieList w s) ≡ a
-    go none e = find-missing (λ x. bits w (keyOf x)) w (bits w k) (items w s) (bits-length w k) (items-lengths w s) (items-noKey w k s h q (lookup-absent k s e)) (items-keys w keyOf s g)
+    go none e =
+        find-missing (λ x. bits w (keyOf x)) w (bits w k) (items w s) (bits-length w k) (items-lengths w s)
+        (items-noKey w k s h q (lookup-absent k s e)) (items-keys w keyOf s g)
     go (some r) e =
-        find-held (λ x. bits w (keyOf x)) w (bits w k) r (items w (remove k s)) (items w s) (items-remove w k r s e) (bits-length w k) (items-lengths w (remove k s)) (items-lengths w s)
+        find-held (λ x. bits w (keyOf x)) w (bits w k) r (items w (remove k s)) (items w s) (items-remove w k r s e) (bits-length w k)
+        (items-lengths w (remove k s)) (items-lengths w s)
         (items-noKey w k (remove k s) h (narrow-remove w k s q) (absent-remove k s o)) (ap (bits w) (lookup-key keyOf k r s e g))
 
 -- The records of a herd's list are the herd's.

@@ -12,7 +12,8 @@ use borrow.Author.Tests.{ltb-true, ltb-false, ne-eqb, eqb-true, eqb-false, le-lt
 use Rattle.leaf_list.specs.Herd.{Herd, add, remove, Above, Absent, Sorted, lookup, KeysOf, Narrow}
 
 -- A fact Q that is P of every key with its record: adding and removing keep it.
-module _ (P : ℕ × ℕ → Type 0) (Q : Herd → Type 0) (nothing : Q []) (one-more : (x : ℕ × ℕ) (s : Herd) → P x → Q s → Q (x ∷ s)) (parts : (x : ℕ × ℕ) (s : Herd) → Q (x ∷ s) → P x × Q s) where
+module _ (P : ℕ × ℕ → Type 0) (Q : Herd → Type 0) (nothing : Q []) (one-more : (x : ℕ × ℕ) (s : Herd) → P x → Q s → Q (x ∷ s))
+    (parts : (x : ℕ × ℕ) (s : Herd) → Q (x ∷ s) → P x × Q s) where
   pub each-add : (k r : ℕ) (s : Herd) → P (k, r) → Q s → Q (add k r s)
   each-add k r [] h q = one-more (k, r) [] h q
   each-add k r (x ∷ s) h q = go (ltb k x.0) (each-add k r s h (parts x s q .1))
@@ -181,7 +182,8 @@ lookup-key keyOf k r (x ∷ s) e h = go (eqb k x.0) refl e (λ e′. lookup-key 
 pub add-comm : (k r m q : ℕ) (s : Herd) → k ≢ m → add k r (add m q s) ≡ add m q (add k r s)
 add-comm k r m q [] h = go (ltb k m) refl
   where
-    go : (t : Bool) → ltb k m ≡ t → cond {A = Herd} t ((k, r) ∷ (m, q) ∷ []) ((m, q) ∷ (k, r) ∷ []) ≡ cond {A = Herd} (ltb m k) ((m, q) ∷ (k, r) ∷ []) ((k, r) ∷ (m, q) ∷ [])
+    go : (t : Bool) → ltb k m ≡ t
+        → cond {A = Herd} t ((k, r) ∷ (m, q) ∷ []) ((m, q) ∷ (k, r) ∷ []) ≡ cond {A = Herd} (ltb m k) ((m, q) ∷ (k, r) ∷ []) ((k, r) ∷ (m, q) ∷ [])
     go true e = rw (le-ltb m k (omega (arith, ltb-true k m e)))
     go false e = rw (lt-ltb m k (omega (arith, ltb-false k m e)))
 add-comm k r m q (x ∷ s) h = go (ltb k x.0) (ltb m x.0) (ltb k m) refl refl refl (add-comm k r m q s h)

@@ -22,7 +22,8 @@ dummies-append l b [] xs rest = refl
 dummies-append l b (p ∷ ps) xs rest = go (ltb l p && ltb p b) (dummies-append l b ps xs rest)
   where
     go : (t : Bool) → dummies l b ps xs ++ rest ≡ dummies l b ps (xs ++ rest)
-        → cond t (entry p none ∷ dummies l b ps xs) (dummies l b ps xs) ++ rest ≡ cond t (entry p none ∷ dummies l b ps (xs ++ rest)) (dummies l b ps (xs ++ rest))
+        → cond t (entry p none ∷ dummies l b ps xs) (dummies l b ps xs) ++ rest
+        ≡ cond t (entry p none ∷ dummies l b ps (xs ++ rest)) (dummies l b ps (xs ++ rest))
     go true e = ap (λ (es : List Entry). entry p none ∷ es) e
     go false e = e
 
@@ -32,7 +33,8 @@ bothLeaves-append true b d new old rest = refl
 bothLeaves-append false b d new old rest = refl
 
 -- The entries after the found one are not looked at.
-pub insertAt-append : (keyOf : ℕ → Key) (k : Key) (r τ : ℕ) (e : Entry) (rest : List Entry) → insertAt keyOf k r τ (e ∷ []) ++ rest ≡ insertAt keyOf k r τ (e ∷ rest)
+pub insertAt-append : (keyOf : ℕ → Key) (k : Key) (r τ : ℕ) (e : Entry) (rest : List Entry)
+    → insertAt keyOf k r τ (e ∷ []) ++ rest ≡ insertAt keyOf k r τ (e ∷ rest)
 insertAt-append keyOf k r τ (entry d none) rest = refl
 insertAt-append keyOf k r τ (entry d (some old)) rest = go (ltb b (leafDepth τ d))
   where
@@ -44,14 +46,16 @@ insertAt-append keyOf k r τ (entry d (some old)) rest = go (ltb b (leafDepth τ
         ≡ cond t (entry b (some old) ∷ entry d (some r) ∷ rest) (dummies (leafDepth τ d) b (positions 0 k) (bothLeaves (below k (keyOf old)) b d r old rest))
     go true = refl
     go false =
-        dummies-append (leafDepth τ d) b (positions 0 k) (bothLeaves (below k (keyOf old)) b d r old []) rest ∙ rw (bothLeaves-append (below k (keyOf old)) b d r old rest)
+        dummies-append (leafDepth τ d) b (positions 0 k) (bothLeaves (below k (keyOf old)) b d r old []) rest
+        ∙ rw (bothLeaves-append (below k (keyOf old)) b d r old rest)
 
 -- Dummies deeper than d before a row closed by d.
 pub dummies-closed : (d l b : ℕ) (ps : List ℕ) (xs : List Entry) → d ≤ l → Closed depthOf d xs → Closed depthOf d (dummies l b ps xs)
 dummies-closed d l b [] xs h g = g
 dummies-closed d l b (p ∷ ps) xs h g = go (ltb l p) (ltb p b) refl (dummies-closed d l b ps xs h g)
   where
-    go : (t u : Bool) → ltb l p ≡ t → Closed depthOf d (dummies l b ps xs) → Closed depthOf d (cond (t && u) (entry p none ∷ dummies l b ps xs) (dummies l b ps xs))
+    go : (t u : Bool) → ltb l p ≡ t → Closed depthOf d (dummies l b ps xs)
+        → Closed depthOf d (cond (t && u) (entry p none ∷ dummies l b ps xs) (dummies l b ps xs))
     go true true e i = closed-cons depthOf d (entry p none) (dummies l b ps xs) (omega (arith, ltb-true l p e)) i
     go true false e i = i
     go false u e i = i
@@ -86,19 +90,23 @@ insertAt-pointers P keyOf k r τ (entry d (some old)) n h g = go (ltb b (leafDep
     b : ℕ
     b = firstDifference 0 k (keyOf old)
 
-    before : (l : ℕ) (ps : List ℕ) (xs : List Entry) → All (λ f. P (pointerOf f)) xs → All (λ f. P (pointerOf f)) (dummies l b ps xs)
+    Each : List Entry → Type 0
+    Each = All (λ f. P (pointerOf f))
+
+    before : (l : ℕ) (ps : List ℕ) (xs : List Entry) → Each xs → Each (dummies l b ps xs)
     before l [] xs i = i
     before l (p ∷ ps) xs i = at (ltb l p && ltb p b) (before l ps xs i)
       where
-        at : (t : Bool) → All (λ f. P (pointerOf f)) (dummies l b ps xs) → All (λ f. P (pointerOf f)) (cond t (entry p none ∷ dummies l b ps xs) (dummies l b ps xs))
+        at : (t : Bool) → Each (dummies l b ps xs)
+            → Each (cond t (entry p none ∷ dummies l b ps xs) (dummies l b ps xs))
         at true i = (n, i)
         at false i = i
 
-    both : (t : Bool) → All (λ f. P (pointerOf f)) (bothLeaves t b d r old [])
+    both : (t : Bool) → Each (bothLeaves t b d r old [])
     both true = (h, (g, tt))
     both false = (g, (h, tt))
 
     go : (t : Bool)
-        → All (λ f. P (pointerOf f)) (cond t (entry b (some old) ∷ entry d (some r) ∷ []) (dummies (leafDepth τ d) b (positions 0 k) (bothLeaves (below k (keyOf old)) b d r old [])))
+        → Each (cond t (entry b (some old) ∷ entry d (some r) ∷ []) (dummies (leafDepth τ d) b (positions 0 k) (bothLeaves (below k (keyOf old)) b d r old [])))
     go true = (g, (h, tt))
     go false = before (leafDepth τ d) (positions 0 k) (bothLeaves (below k (keyOf old)) b d r old []) (both (below k (keyOf old)))

@@ -84,7 +84,8 @@ itemKeys-one keyOf u s h = all-one (λ x. keyOf (recordPart x) ≡ reverseAux u 
 pub pairs-zero : (R : Key → Key → Type 0) → ((k k′ : Key) → R (false ∷ k) (false ∷ k′) → R k k′) → (s : List Item) → Pairs R s → Pairs R (zeroSide s)
 pairs-zero R f [] h = tt
 pairs-zero R f (item [] r ∷ s) h = pairs-zero R f s (h .1)
-pairs-zero R f (item (false ∷ k) r ∷ s) h = (all-zero (λ y. R (false ∷ k) (keyPart y)) (λ y. R k (keyPart y)) (λ k′ r e. f k k′ e) s (h .0), pairs-zero R f s (h .1))
+pairs-zero R f (item (false ∷ k) r ∷ s) h =
+    (all-zero (λ y. R (false ∷ k) (keyPart y)) (λ y. R k (keyPart y)) (λ k′ r e. f k k′ e) s (h .0), pairs-zero R f s (h .1))
 pairs-zero R f (item (true ∷ k) r ∷ s) h = pairs-zero R f s (h .1)
 
 -- The pairs on the 1-side.

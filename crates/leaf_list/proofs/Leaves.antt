@@ -25,7 +25,8 @@ zeroSide-zero (leaf k r) f rest = refl
 zeroSide-zero (zero-only t) f rest = zeroSide-zero t (λ k. f (false ∷ k)) rest
 zeroSide-zero (one-only t) f rest = zeroSide-zero t (λ k. f (true ∷ k)) rest
 zeroSide-zero (fork a b) f rest =
-    zeroSide-zero a (λ k. f (false ∷ k)) (leaves (λ k. false ∷ f (true ∷ k)) b rest) ∙ ap (leaves (λ k. f (false ∷ k)) a) (zeroSide-zero b (λ k. f (true ∷ k)) rest)
+    zeroSide-zero a (λ k. f (false ∷ k)) (leaves (λ k. false ∷ f (true ∷ k)) b rest)
+    ∙ ap (leaves (λ k. f (false ∷ k)) a) (zeroSide-zero b (λ k. f (true ∷ k)) rest)
 
 -- The 0-side of keys that begin with 1.
 pub zeroSide-one : (t : Trie) (f : Key → Key) (rest : List Item) → zeroSide (leaves (λ k. true ∷ f k) t rest) ≡ zeroSide rest
@@ -73,10 +74,12 @@ least-leaves (leaf k r) f k₀ rest h q = (h k, q)
 least-leaves (zero-only t) f k₀ rest h q = least-leaves t (λ k. f (false ∷ k)) k₀ rest (λ k. h (false ∷ k)) q
 least-leaves (one-only t) f k₀ rest h q = least-leaves t (λ k. f (true ∷ k)) k₀ rest (λ k. h (true ∷ k)) q
 least-leaves (fork a b) f k₀ rest h q =
-    least-leaves a (λ k. f (false ∷ k)) k₀ (leaves (λ k. f (true ∷ k)) b rest) (λ k. h (false ∷ k)) (least-leaves b (λ k. f (true ∷ k)) k₀ rest (λ k. h (true ∷ k)) q)
+    least-leaves a (λ k. f (false ∷ k)) k₀ (leaves (λ k. f (true ∷ k)) b rest) (λ k. h (false ∷ k))
+    (least-leaves b (λ k. f (true ∷ k)) k₀ rest (λ k. h (true ∷ k)) q)
 
 -- The keys of a trie rise.
-pub ordered-leaves : (t : Trie) (f : Key → Key) (rest : List Item) → ((k k′ : Key) → below (f k) (f k′) ≡ below k k′) → Ordered rest → ((k : Key) → Least (f k) rest)
+pub ordered-leaves : (t : Trie) (f : Key → Key) (rest : List Item) → ((k k′ : Key) → below (f k) (f k′) ≡ below k k′) → Ordered rest
+    → ((k : Key) → Least (f k) rest)
     → Ordered (leaves f t rest)
 ordered-leaves (leaf k r) f rest h o q = (q k, o)
 ordered-leaves (zero-only t) f rest h o q = ordered-leaves t (λ k. f (false ∷ k)) rest (λ k k′. h (false ∷ k) (false ∷ k′)) o (λ k. q (false ∷ k))

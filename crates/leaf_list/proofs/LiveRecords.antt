@@ -49,7 +49,8 @@ itemRecords [] rest = rest
 itemRecords (item k r ∷ s) rest = r ∷ itemRecords s rest
 
 -- The records of rising keys: the 0-side's, then the 1-side's.
-pub records-by-sides : (n : ℕ) (s : List Item) (rest : List ℕ) → Lengths (suc n) s → Ordered s → itemRecords s rest ≡ itemRecords (zeroSide s) (itemRecords (oneSide s) rest)
+pub records-by-sides : (n : ℕ) (s : List Item) (rest : List ℕ) → Lengths (suc n) s → Ordered s
+    → itemRecords s rest ≡ itemRecords (zeroSide s) (itemRecords (oneSide s) rest)
 records-by-sides n [] rest h o = refl
 records-by-sides n (item [] r ∷ s) rest h o = absurd (omega (arith, h .0))
 records-by-sides n (item (false ∷ k) r ∷ s) rest h o = ap (λ (x : List ℕ). r ∷ x) (records-by-sides n s rest (h .1) (o .1))

@@ -100,7 +100,8 @@ length-herdFrom keyOf i (u ∷ us) = go (eqb u 1) (length-herdFrom keyOf (suc i)
 pub herdFrom-keeps : (keyOf : ℕ → ℕ) (used : ℕ → Bool) (Q : Herd → Type 0) → Q [] → ((r : ℕ) (s : Herd) → used r ≡ true → Q s → Q (add (keyOf r) r s))
     → (i : ℕ) (us : List ℕ) → ((j : ℕ) → used (i + j) ≡ inUse us j) → Q (herdFrom keyOf i us)
 herdFrom-keeps keyOf used Q nothing one-more i [] f = nothing
-herdFrom-keeps keyOf used Q nothing one-more i (u ∷ us) f = go (eqb u 1) refl (herdFrom-keeps keyOf used Q nothing one-more (suc i) us (λ j. ap used (omega arith) ∙ f (suc j)))
+herdFrom-keeps keyOf used Q nothing one-more i (u ∷ us) f =
+    go (eqb u 1) refl (herdFrom-keeps keyOf used Q nothing one-more (suc i) us (λ j. ap used (omega arith) ∙ f (suc j)))
   where
     go : (t : Bool) → eqb u 1 ≡ t → Q (herdFrom keyOf (suc i) us) → Q (cond t (add (keyOf i) i (herdFrom keyOf (suc i) us)) (herdFrom keyOf (suc i) us))
     go true e h = one-more i (herdFrom keyOf (suc i) us) (ap used (sym (add-zero i)) ∙ f 0 ∙ e) h
@@ -134,7 +135,8 @@ herdOf-is keys used =
     keeps Q nothing one-more = herdFrom-keeps (keyAt keys) (inUse used) Q nothing one-more 0 used (λ j. ap (inUse used) (zero-add j))
 
 -- A held record is in use and has the key.
-pub holds-inUse : (keyOf : ℕ → ℕ) (used : ℕ → Bool) (k r : ℕ) (s : Herd) → KeysOf keyOf s → AllInUse used (recordsOf s) → Holds k r s → (used r ≡ true) × (keyOf r ≡ k)
+pub holds-inUse : (keyOf : ℕ → ℕ) (used : ℕ → Bool) (k r : ℕ) (s : Herd) → KeysOf keyOf s → AllInUse used (recordsOf s) → Holds k r s
+    → (used r ≡ true) × (keyOf r ≡ k)
 holds-inUse keyOf used k r [] h a i = absurd i
 holds-inUse keyOf used k r (x ∷ s) h a (inl e) = (ap used (e .1) ∙ a .0, ap keyOf (e .1) ∙ h .0 ∙ sym (e .0))
 holds-inUse keyOf used k r (x ∷ s) h a (inr i) = holds-inUse keyOf used k r s (h .1) (a .1) i
@@ -156,7 +158,8 @@ absent-holds k j r (x ∷ s) a (inr i) = absent-holds k j r s (a .1) i
 pub holds-lookup : (k r : ℕ) (s : Herd) → Sorted s → Holds k r s → lookup k s ≡ some r
 holds-lookup k r [] o i = absurd i
 holds-lookup k r (x ∷ s) o (inl e) = rw (eq-eqb k x.0 (e .0)) (ap some (sym (e .1)))
-holds-lookup k r (x ∷ s) o (inr i) = rw (ne-eqb k x.0 (λ q. absent-holds x.0 k r s (above-absent x.0 x.0 s (omega arith) (o .0)) i (sym q))) (holds-lookup k r s (o .1) i)
+holds-lookup k r (x ∷ s) o (inr i) =
+    rw (ne-eqb k x.0 (λ q. absent-holds x.0 k r s (above-absent x.0 x.0 s (omega arith) (o .0)) i (sym q))) (holds-lookup k r s (o .1) i)
 
 -- What is looked up is held.
 pub lookup-holds : (k r : ℕ) (s : Herd) → lookup k s ≡ some r → Holds k r s

@@ -43,7 +43,8 @@ strings-all n [] h = absurd (h .2)
 strings-all zero (x ∷ v) h = absurd (omega (arith, h .1))
 strings-all (suc n) (x ∷ []) h = Memᴰ·append-right (map (λ v. false ∷ v) (strings n)) (List·Memᴰ·head (ap (λ (b : Bool). b ∷ []) (h .2)))
 strings-all (suc n) (false ∷ y ∷ v) h =
-    Memᴰ·append-left ((true ∷ []) ∷ map (λ v. true ∷ v) (strings n)) (Memᴰ·map (λ (v : Key). false ∷ v) (strings-all n (y ∷ v) (omega arith, omega (arith, h .1), h .2)))
+    Memᴰ·append-left ((true ∷ []) ∷ map (λ v. true ∷ v) (strings n))
+    (Memᴰ·map (λ (v : Key). false ∷ v) (strings-all n (y ∷ v) (omega arith, omega (arith, h .1), h .2)))
 strings-all (suc n) (true ∷ y ∷ v) h =
     Memᴰ·append-right (map (λ v. false ∷ v) (strings n))
     (List·Memᴰ·tail (Memᴰ·map (λ (v : Key). true ∷ v) (strings-all n (y ∷ v) (omega arith, omega (arith, h .1), h .2))))

@@ -52,7 +52,9 @@ subHerd-same (y ∷ s) (x ∷ xs) o q h e = go (h .0) (λ a. subHerd-same s xs (
     go (inl z) f =
         let p : x ≡ y = λ i. (z .0 i, z .1 i) in
         ap₂ (λ (a : ℕ × ℕ) (b : Herd). a ∷ b) p (f (subHerd-later y s xs (above-trans y.0 x.0 xs (omega (arith, z .0)) (o .0)) (h .1)))
-    go (inr i) f = absurd (omega (arith, subHerd-length s (x ∷ xs) o (q .1) (i, subHerd-later y s xs (above-trans y.0 x.0 xs (holds-atLeast y.0 x.0 x.1 s (q .0) i) (o .0)) (h .1))))
+    go (inr i) f =
+        absurd
+        (omega (arith, subHerd-length s (x ∷ xs) o (q .1) (i, subHerd-later y s xs (above-trans y.0 x.0 xs (holds-atLeast y.0 x.0 x.1 s (q .0) i) (o .0)) (h .1))))
 
 -- As many keys as records.
 pub length-herdWith : (keyOf : ℕ → ℕ) (rs : List ℕ) → length (herdWith keyOf rs) ≡ length rs
@@ -85,7 +87,8 @@ module _ (w : ℕ) (keyOf : ℕ → ℕ) (used : ℕ → Bool) (s : Herd) (b : I
       to : Fitting w (bitsOf w keyOf) used (zeroBits w) 0 false es × (length (liveRecords es) ≡ length s) → (es ≡ trieList w s) × Sorted s
       to h =
           let o : OwnList w keyOf used narrow es = fitting-own w keyOf used narrow es (h .0) in
-          let e : herdWith keyOf (liveRecords es) ≡ s = subHerd-same s (herdWith keyOf (liveRecords es)) (o .1) (b .ordered) (subHerd-with (liveRecords es) (o .2)) (length-herdWith keyOf (liveRecords es) ∙ h .1) in
+          let e : herdWith keyOf (liveRecords es) ≡ s =
+          subHerd-same s (herdWith keyOf (liveRecords es)) (o .1) (b .ordered) (subHerd-with (liveRecords es) (o .2)) (length-herdWith keyOf (liveRecords es) ∙ h .1) in
           (o .0 ∙ ap (trieList w) e, subst Sorted e (o .1))
 
       fro : (es ≡ trieList w s) × Sorted s → Fitting w (bitsOf w keyOf) used (zeroBits w) 0 false es × (length (liveRecords es) ≡ length s)

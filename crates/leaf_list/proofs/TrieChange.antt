@@ -124,12 +124,15 @@ trieOf-insert zero k r s s′ i e h m = trieOf-only i (noKey-empty k s e h m) �
 trieOf-insert (suc n) [] r s s′ i e h m = absurd (omega arith)
 trieOf-insert (suc n) (false ∷ k) r s s′ i e h m =
     trieOf-suc n s′
-    ∙ ap₂ join (trieOf-insert n k r (zeroSide s) (zeroSide s′) (with-zeroSide i) (omega arith) (lengths-zero n s h) (noKey-zero k s m)) (ap (trieOf n) (oneSide-same i))
-    ∙ join-insert-zero k r (trieOf n (zeroSide s)) (trieOf n (oneSide s)) (trieOf-notHeld n k (zeroSide s) (omega arith) (lengths-zero n s h) (noKey-zero k s m))
+    ∙ ap₂ join (trieOf-insert n k r (zeroSide s) (zeroSide s′) (with-zeroSide i) (omega arith) (lengths-zero n s h) (noKey-zero k s m))
+    (ap (trieOf n) (oneSide-same i))
+    ∙ join-insert-zero k r (trieOf n (zeroSide s)) (trieOf n (oneSide s))
+    (trieOf-notHeld n k (zeroSide s) (omega arith) (lengths-zero n s h) (noKey-zero k s m))
     ∙ ap (insertOption (false ∷ k) r) (sym (trieOf-suc n s))
 trieOf-insert (suc n) (true ∷ k) r s s′ i e h m =
     trieOf-suc n s′
-    ∙ ap₂ join (ap (trieOf n) (zeroSide-same i)) (trieOf-insert n k r (oneSide s) (oneSide s′) (with-oneSide i) (omega arith) (lengths-one n s h) (noKey-one k s m))
+    ∙ ap₂ join (ap (trieOf n) (zeroSide-same i))
+    (trieOf-insert n k r (oneSide s) (oneSide s′) (with-oneSide i) (omega arith) (lengths-one n s h) (noKey-one k s m))
     ∙ join-insert-one k r (trieOf n (zeroSide s)) (trieOf n (oneSide s)) (trieOf-notHeld n k (oneSide s) (omega arith) (lengths-one n s h) (noKey-one k s m))
     ∙ ap (insertOption (true ∷ k) r) (sym (trieOf-suc n s))
 

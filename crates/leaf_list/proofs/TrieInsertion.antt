@@ -49,7 +49,8 @@ insertTrie (false ∷ k) r (fork a b) = fork (insertTrie k r a) b
 insertTrie (true ∷ k) r (fork a b) = fork a (insertTrie k r b)
 
 -- No dummy is made for a one-bit of the path.
-pub dummies-path : (u k : Key) (m b : ℕ) (rest : List Entry) → length u ≤ m → dummies m b (positions 0 (reverseAux u k)) rest ≡ dummies m b (positions (length u) k) rest
+pub dummies-path : (u k : Key) (m b : ℕ) (rest : List Entry) → length u ≤ m
+    → dummies m b (positions 0 (reverseAux u k)) rest ≡ dummies m b (positions (length u) k) rest
 dummies-path [] k m b rest h = refl
 dummies-path (false ∷ u) k m b rest h = dummies-path u (false ∷ k) m b rest (omega arith)
 dummies-path (true ∷ u) k m b rest h = dummies-path u (true ∷ k) m b rest (omega arith) ∙ rw (le-ltb m (suc (length u)) h)
@@ -79,7 +80,14 @@ module _ (keyOf : ℕ → Key) where
   insert-at-leaf : (u k k′ : Key) (r r′ c : ℕ) (before rest : List Entry) → Differ k k′ → keyOf r′ ≡ reverseAux u k′ → max (trailing before) c ≡ length u
       → insertInto keyOf (reverseAux u k) r (before, entry c (some r′) ∷ rest) ≡ reverseAux before (write (length u) (twoLeaves k r k′ r′) c rest)
   insert-at-leaf u k k′ r r′ c before rest a g e =
-      rw (g, firstDifference-path u k k′, below-path u k k′, leafDepth-max (trailing before) c, e, le-ltb (firstDifference (length u) k k′) (length u) (omega (arith, firstDifference-above (length u) k k′)))
+      rw (
+        g,
+        firstDifference-path u k k′,
+        below-path u k k′,
+        leafDepth-max (trailing before) c,
+        e,
+        le-ltb (firstDifference (length u) k k′) (length u) (omega (arith, firstDifference-above (length u) k k′)),
+      )
       (ap (reverseAux before) (dummies-path u k (length u) _ _ (omega arith) ∙ write-twoLeaves k k′ r r′ (length u) (length u) c rest a (omega arith)))
 
   -- After a node whose keys all go on with 0, b is below l.
@@ -98,7 +106,8 @@ module _ (keyOf : ℕ → Key) where
   -- At the place that a search finds in a node.
   pub insert-node : (t : Trie) (u k : Key) (r c : ℕ) (before rest : List Entry)
       → NotHeld k t → Pruned t → KeysIn keyOf u t → c ≤ length u → trailing before ≤ length u → AtLeaf (max (trailing before) c ≡ length u) t
-      → insertInto keyOf (reverseAux u k) r (passed (length u) t k before, remaining (length u) t k c rest) ≡ reverseAux before (write (length u) (insertTrie k r t) c rest)
+      → insertInto keyOf (reverseAux u k) r (passed (length u) t k before, remaining (length u) t k c rest)
+      ≡ reverseAux before (write (length u) (insertTrie k r t) c rest)
   insert-node (leaf k′ r′) u k r c before rest f g q hc hτ e = insert-at-leaf u k k′ r r′ c before rest f q e
   insert-node (zero-only t) u [] r c before rest f g q hc hτ e = absurd f
   insert-node (zero-only t) u (false ∷ k) r c before rest f g q hc hτ e =
@@ -113,6 +122,7 @@ module _ (keyOf : ℕ → Key) where
       insert-node a (false ∷ u) k r (suc (length u)) before (write (suc (length u)) b c rest) f (g .0) (q .0) (omega arith) (omega arith)
       (at-leaf _ a (omega arith))
   insert-node (fork a b) u (true ∷ k) r c before rest f g q hc hτ e =
-      insert-node b (true ∷ u) k r c (entry (suc (length u)) (some (lastRecord a)) ∷ passFront (suc (length u)) a before) rest f (g .1) (q .1) (omega arith) (omega arith)
+      insert-node b (true ∷ u) k r c (entry (suc (length u)) (some (lastRecord a)) ∷ passFront (suc (length u)) a before) rest f (g .1) (q .1)
+      (omega arith) (omega arith)
       (at-leaf _ b (omega arith))
       ∙ rewind a (suc (length u)) (suc (length u)) before (write (suc (length u)) (insertTrie k r b) c rest)

@@ -76,11 +76,13 @@ trieOf-notHeld (suc n) [] s e h m = absurd (omega arith)
 trieOf-notHeld (suc n) (false ∷ k) s e h m =
     rw (trieOf-suc n s)
     (given-join (NotHeld k) (λ t. Unit {0}) (NotHeld (false ∷ k)) (λ k′ r f. f) (λ t y f. f) (λ k′ r f. tt) (λ t y f. tt) (λ a b f g. f) (trieOf n (zeroSide s))
-    (trieOf n (oneSide s)) (trieOf-notHeld n k (zeroSide s) (omega arith) (lengths-zero n s h) (noKey-zero k s m)) (given-any (λ t. Unit {0}) (λ t. tt) (trieOf n (oneSide s))))
+    (trieOf n (oneSide s)) (trieOf-notHeld n k (zeroSide s) (omega arith) (lengths-zero n s h) (noKey-zero k s m))
+    (given-any (λ t. Unit {0}) (λ t. tt) (trieOf n (oneSide s))))
 trieOf-notHeld (suc n) (true ∷ k) s e h m =
     rw (trieOf-suc n s)
     (given-join (λ t. Unit {0}) (NotHeld k) (NotHeld (true ∷ k)) (λ k′ r f. tt) (λ t y f. tt) (λ k′ r f. f) (λ t y f. f) (λ a b f g. g) (trieOf n (zeroSide s))
-    (trieOf n (oneSide s)) (given-any (λ t. Unit {0}) (λ t. tt) (trieOf n (zeroSide s))) (trieOf-notHeld n k (oneSide s) (omega arith) (lengths-one n s h) (noKey-one k s m)))
+    (trieOf n (oneSide s)) (given-any (λ t. Unit {0}) (λ t. tt) (trieOf n (zeroSide s)))
+    (trieOf-notHeld n k (oneSide s) (omega arith) (lengths-one n s h) (noKey-one k s m)))
 
 -- The records of the trie have their keys.
 pub trieOf-keys : (keyOf : ℕ → Key) (n : ℕ) (u : Key) (s : List Item) → ItemKeys keyOf u s → Given (KeysIn keyOf u) (trieOf n s)

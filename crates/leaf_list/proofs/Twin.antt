@@ -25,7 +25,8 @@ writeOption l none c rest = entry c none ∷ rest
 writeOption l (some t) c rest = write l t c rest
 
 -- The trie with a first key.
-pub trieOf-cons : (n : ℕ) (k : Key) (r : ℕ) (s : List Item) → Lengths n (item k r ∷ s) → Distinct (item k r ∷ s) → trieOf n (item k r ∷ s) ≡ insertOption k r (trieOf n s)
+pub trieOf-cons : (n : ℕ) (k : Key) (r : ℕ) (s : List Item) → Lengths n (item k r ∷ s) → Distinct (item k r ∷ s)
+    → trieOf n (item k r ∷ s) ≡ insertOption k r (trieOf n s)
 trieOf-cons n k r s h d = trieOf-insert n k r s (item k r ∷ s) here (h .0) (h .1) (d .0)
 
 -- One bit further up, all keys on the 0-side.
@@ -60,7 +61,8 @@ trieOf-nonEmpty n (item k r ∷ s) h d q = rw (trieOf-cons n k r s h d) (insertO
 pub trieOf-branching : (n : ℕ) (s : List Item) → Lengths n s → Distinct s → 1 < length s → BranchingOption (trieOf n s)
 trieOf-branching n [] h d q = absurd (omega arith)
 trieOf-branching n (item k r ∷ s) h d q =
-    rw (trieOf-cons n k r s h d) (insertOption-branching k r (trieOf n s) (trieOf-nonEmpty n s (h .1) (d .1) (omega arith)) (trieOf-notHeld n k s (h .0) (h .1) (d .0)))
+    rw (trieOf-cons n k r s h d)
+    (insertOption-branching k r (trieOf n s) (trieOf-nonEmpty n s (h .1) (d .1) (omega arith)) (trieOf-notHeld n k s (h .0) (h .1) (d .0)))
 
 -- Both sides are there, or the 1-side with two keys.
 abbrev pub TwoSided : Option Trie → Option Trie → Type 0
@@ -68,7 +70,8 @@ TwoSided none b = BranchingOption b
 TwoSided (some a) b = NonEmpty b
 
 -- The entries of a node whose 1-side starts with a bounding node.
-pub writeOption-join : (a b : Option Trie) (l c : ℕ) (rest : List Entry) → TwoSided a b → writeOption (suc l) a (suc l) (writeOption (suc l) b c rest) ≡ writeOption l (join a b) c rest
+pub writeOption-join : (a b : Option Trie) (l c : ℕ) (rest : List Entry) → TwoSided a b
+    → writeOption (suc l) a (suc l) (writeOption (suc l) b c rest) ≡ writeOption l (join a b) c rest
 writeOption-join none none l c rest y = absurd y
 writeOption-join none (some (leaf k r)) l c rest y = absurd y
 writeOption-join none (some (zero-only t)) l c rest y = refl
@@ -88,7 +91,8 @@ SameEntries n l s c rest = entriesAt l s (zeroBits n) (boundingStems n s) c rest
 
 -- One bit of the twin, by which sides have keys.
 module _ (n l c : ℕ) (s : List Item) (rest : List Entry) (h : Lengths (suc n) s) (d : Distinct s)
-    (zero-side : (c : ℕ) (rest : List Entry) → SameEntries n (suc l) (zeroSide s) c rest) (one-side : (c : ℕ) (rest : List Entry) → SameEntries n (suc l) (oneSide s) c rest) where
+    (zero-side : (c : ℕ) (rest : List Entry) → SameEntries n (suc l) (zeroSide s) c rest)
+    (one-side : (c : ℕ) (rest : List Entry) → SameEntries n (suc l) (oneSide s) c rest) where
   -- All keys go on with 0.
   twin-zero : oneSide s ≡ [] → SameEntries (suc n) l s c rest
   twin-zero e =
@@ -100,7 +104,8 @@ module _ (n l c : ℕ) (s : List Item) (rest : List Entry) (h : Lengths (suc n) 
   twin-bounding e y =
       rw (boundingStems-suc n s, trieOf-suc n s, e)
       (entriesAt-middle n l c s (zeroBits n) (boundingStems n (zeroSide s)) (map (λ v. true ∷ v) (boundingStems n (oneSide s))) rest (zeroBits-length n)
-      ∙ ap (entriesAt (suc l) (zeroSide s) (zeroBits n) (boundingStems n (zeroSide s)) (suc l)) (entriesAt-one n l c s (zeroBits n) (boundingStems n (oneSide s)) rest h ∙ one-side c rest)
+      ∙ ap (entriesAt (suc l) (zeroSide s) (zeroBits n) (boundingStems n (zeroSide s)) (suc l))
+      (entriesAt-one n l c s (zeroBits n) (boundingStems n (oneSide s)) rest h ∙ one-side c rest)
       ∙ zero-side (suc l) (writeOption (suc l) (trieOf n (oneSide s)) c rest)
       ∙ writeOption-join (trieOf n (zeroSide s)) (trieOf n (oneSide s)) l c rest y)
 
