@@ -9,7 +9,7 @@ use native.Mathlib.Omega.{arith}
 use Rattle.leaf_list.specs.Entries.{Entry, entry, depthOf, isNil, pointerOf}
 use Rattle.leaf_list.specs.Trie.{Trie, leaf, zero-only, one-only, fork, write, writeAll}
 use Rattle.leaf_list.proofs.Lists.{All, all-weaker, all-append}
-use Rattle.leaf_list.proofs.Tries.{lastRecord, Sized, Given, Pruned, AtLeaf, at-branching, at-leaf}
+use Rattle.leaf_list.proofs.Tries.{lastRecord, Sized, Given, Pruned, AtLeaf, at-branching, at-leaf, leaf-or-branching}
 
 -- The entries of a node but its last.
 abbrev pub frontOf : ℕ → Trie → List Entry
@@ -130,10 +130,6 @@ neighbours-tail e (f ∷ es) n = n .1
 -- The neighbours in the entries of a whole trie; a sole entry has none.
 pub neighbours-writeAll : (o : Option Trie) → Given Pruned o → Neighbours (writeAll o)
 neighbours-writeAll none g = tt
-neighbours-writeAll (some (leaf k r)) g = tt
-neighbours-writeAll (some (zero-only t)) g =
-    neighbours-tail (entry 0 none) (write 0 (zero-only t) 0 []) (neighbours-write (zero-only t) 0 0 0 none [] g (omega arith) (omega arith) tt tt)
-neighbours-writeAll (some (one-only t)) g =
-    neighbours-tail (entry 0 none) (write 0 (one-only t) 0 []) (neighbours-write (one-only t) 0 0 0 none [] g (omega arith) (omega arith) tt tt)
-neighbours-writeAll (some (fork a b)) g =
-    neighbours-tail (entry 0 none) (write 0 (fork a b) 0 []) (neighbours-write (fork a b) 0 0 0 none [] g (omega arith) (omega arith) tt tt)
+neighbours-writeAll (some t) g =
+    leaf-or-branching (λ t. Pruned t → Neighbours (write 0 t 0 [])) (λ k r g. tt)
+    (λ t m g. neighbours-tail (entry 0 none) (write 0 t 0 []) (neighbours-write t 0 0 0 none [] g (omega arith) (omega arith) (at-branching _ t m) tt)) t g

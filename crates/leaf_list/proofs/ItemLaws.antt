@@ -12,13 +12,13 @@ use Rattle.leaf_list.specs.LeafList.{Item, item}
 use Rattle.leaf_list.specs.Trie.{Trie, writeAll, leaf, zero-only, one-only, fork, trieOf, write}
 use Rattle.leaf_list.specs.Search.{pointerAt, compared, find}
 use Rattle.leaf_list.specs.Insertion.{insertion}
-use Rattle.leaf_list.specs.Deletion.{deleteAt, deletion}
+use Rattle.leaf_list.specs.Deletion.{deletion}
 use Rattle.leaf_list.proofs.Bits.{sameKey-refl}
 use Rattle.leaf_list.proofs.Paths.{sameKey-path, differ-sameKey}
-use Rattle.leaf_list.proofs.Tries.{Given, Reaches, NotHeld, Pruned, KeysIn, at-leaf, Held, Branching, key-of-last, lastBits}
-use Rattle.leaf_list.proofs.Places.{stops-shallow, search-node, passed, remaining}
+use Rattle.leaf_list.proofs.Tries.{Given, Reaches, NotHeld, Pruned, KeysIn, at-leaf, Held, Branching, leaf-or-branching, key-of-last, lastBits}
+use Rattle.leaf_list.proofs.Places.{stops-shallow, search-node, remaining}
 use Rattle.leaf_list.proofs.TrieInsertion.{insert-node, insertTrie}
-use Rattle.leaf_list.proofs.TrieDeletion.{deleteTrie, delete-node, writeLeft}
+use Rattle.leaf_list.proofs.TrieDeletion.{Deletes, deleteTrie, delete-node, writeLeft}
 use Rattle.leaf_list.proofs.Items.{Lengths, NoKey, ItemKeys}
 use Rattle.leaf_list.proofs.TrieOf.{trieOf-reaches, trieOf-notHeld, trieOf-pruned, trieOf-keys}
 use Rattle.leaf_list.proofs.TrieChange.{insertOption, With, trieOf-insert, insertTrie-held, deleteTrie-insert}
@@ -34,7 +34,7 @@ insertion-trie keyOf (some t) k r y f g q =
 
 -- Deletion at the found entry, from two keys or more.
 pub deletion-branching : (t : Trie) (k : Key) (r : ℕ) → Held k r t → Branching t → Pruned t
-    → deleteAt (passed 0 t k []) (remaining 0 t k 0 []) ≡ writeAll (deleteTrie k t)
+    → Deletes t k 0 0 [] [] (writeAll (deleteTrie k t))
 deletion-branching t k r y m g = delete-node t k r 0 0 [] [] y m g (omega arith) (omega arith) ∙ plain (deleteTrie k t)
   where
     plain : (o : Option Trie) → writeLeft 0 o 0 [] [] ≡ writeAll o
@@ -45,11 +45,10 @@ deletion-branching t k r y m g = delete-node t k r 0 0 [] [] y m g (omega arith)
     plain (some (fork a b)) = refl
 
 -- Deletion at the found entry; a sole entry becomes (0, NIL).
-pub deletion-found : (t : Trie) (k : Key) (r : ℕ) → Held k r t → Pruned t → deleteAt (passed 0 t k []) (remaining 0 t k 0 []) ≡ writeAll (deleteTrie k t)
-deletion-found (leaf k′ r′) k r y g = rw (y .0)
-deletion-found (zero-only t) k r y g = deletion-branching (zero-only t) k r y tt g
-deletion-found (one-only t) k r y g = deletion-branching (one-only t) k r y tt g
-deletion-found (fork a b) k r y g = deletion-branching (fork a b) k r y tt g
+pub deletion-found : (t : Trie) (k : Key) (r : ℕ) → Held k r t → Pruned t → Deletes t k 0 0 [] [] (writeAll (deleteTrie k t))
+deletion-found t k r =
+    leaf-or-branching (λ t. Held k r t → Pruned t → Deletes t k 0 0 [] [] (writeAll (deleteTrie k t))) (λ k′ r′ y g. rw (y .0))
+    (λ t m y g. deletion-branching t k r y m g) t
 
 -- Deletion from the entries of a whole trie.
 pub deletion-trie : (t : Trie) (k : Key) (r : ℕ) → Reaches k t → Held k r t → Pruned t → deletion k (writeAll (some t)) ≡ writeAll (deleteTrie k t)

@@ -31,6 +31,13 @@ Branching (zero-only t) = Unit {0}
 Branching (one-only t) = Unit {0}
 Branching (fork a b) = Unit {0}
 
+-- By cases: a leaf, or a node with two keys.
+pub leaf-or-branching : (P : Trie → Type 0) → ((k : Key) (r : ℕ) → P (leaf k r)) → ((t : Trie) → Branching t → P t) → (t : Trie) → P t
+leaf-or-branching P f g (leaf k r) = f k r
+leaf-or-branching P f g (zero-only t) = g (zero-only t) tt
+leaf-or-branching P f g (one-only t) = g (one-only t) tt
+leaf-or-branching P f g (fork a b) = g (fork a b) tt
+
 -- A node with one child has at least two keys below it.
 abbrev pub Pruned : Trie → Type 0
 Pruned (leaf k r) = Unit {0}
