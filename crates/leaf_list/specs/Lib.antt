@@ -1,0 +1,10 @@
+pub mod Keys
+pub mod Entries
+pub mod Herd
+pub mod LeafList
+pub mod Trie
+pub mod Search
+pub mod Insertion
+pub mod Deletion
+pub mod Register
+pub mod Conditions
