@@ -39,8 +39,14 @@ fn test_key(width: usize, herd: &Herd, list: &[Entry], key: u64, after: &[Entry]
             insertion(list, width, key_of, key, free_record(herd))
         }
     };
-    let (shown, expected) = (show(&changed(list, &change)), show(after));
-    assert_eq!(shown, expected, "W {width} {herd:?} {key}");
+    let left = changed(list, &change);
+    let (shown, expected) = (|| show(&left), || show(after));
+    assert!(
+        left == after,
+        "W {width} {herd:?} {key}: {} for {}",
+        shown(),
+        expected()
+    );
 }
 
 /// The lowest record not in use.
