@@ -162,9 +162,7 @@ fn beside_the_model_answers_slices_and_tables_are_not() {
     let fails = |last: Call, run: fn(&mut Tables, &Call) -> Outcome| {
         let calls = [&start[..], &[last]].concat();
         let failure = follow(&History { shape, calls }, beside_model(run)).err();
-        failure.is_some_and(|failure| {
-            failure.calls == 3 && failure.what.contains("against") || failure.what.contains("model")
-        })
+        failure.is_some_and(|failure| failure.calls == 3)
     };
     assert!(fails(Call::Find(20), mistaken));
     assert!(fails(Call::List(0, 255, vec![7; 3]), mistaken));

@@ -40,12 +40,11 @@ fn test_key(width: usize, herd: &Herd, list: &[Entry], key: u64, after: &[Entry]
         }
     };
     let left = changed(list, &change);
-    let (shown, expected) = (|| show(&left), || show(after));
     assert!(
         left == after,
         "W {width} {herd:?} {key}: {} for {}",
-        shown(),
-        expected()
+        show(&left),
+        show(after)
     );
 }
 
