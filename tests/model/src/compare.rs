@@ -10,13 +10,10 @@ pub fn compare(left: Lent, right: Lent) -> Result<(), String> {
         return Err(register_difference(left, right));
     }
     compare_headers(left.index, right.index)?;
-    let header = header(left.index);
-    let mut sides = [
-        Side::new(left.index, &header)?,
-        Side::new(right.index, &header)?,
-    ];
-    let roots = [header.root, crate::table::header(right.index).root];
-    compare_pages(&mut sides, roots, "root")?;
+    let mut sides = [Side::new(left.index)?, Side::new(right.index)?];
+    let roots = [left, right].map(|lent| header(lent.index).root);
+    let level = sides[0].level(roots[0]);
+    compare_pages(&mut sides, roots, level, "root")?;
     sides.iter().try_for_each(Side::rest_is_zero)
 }
 
@@ -36,17 +33,11 @@ fn register_difference(left: Lent, right: Lent) -> String {
 /// The root page's number, bytes 4 and 5, may differ.
 fn compare_headers(left: &[u8], right: &[u8]) -> Result<(), String> {
     if left.len() != right.len() || left.len() < HEADER_BYTES {
-        return Err(format!(
-            "index tables of {} and {} bytes",
-            left.len(),
-            right.len()
-        ));
+        let (left, right) = (left.len(), right.len());
+        return Err(format!("index tables of {left} and {right} bytes"));
     }
-    let places = (0..4).chain(6..HEADER_BYTES);
-    match places
-        .into_iter()
-        .find(|&place| left[place] != right[place])
-    {
+    let mut places = (0..4).chain(6..HEADER_BYTES);
+    match places.find(|&place| left[place] != right[place]) {
         Some(place) => {
             let (left, right) = (left[place], right[place]);
             Err(format!("header byte {place}: {left} against {right}"))
@@ -63,19 +54,27 @@ struct Side<'a> {
 }
 
 impl Side<'_> {
-    fn new<'a>(index: &'a [u8], header: &Header) -> Result<Side<'a>, String> {
-        let Header { entries, pages, .. } = *header;
-        if index.len() != LAYOUT.index_bytes(entries, pages) {
-            return Err(format!(
-                "{} bytes for E {entries} and P {pages}",
-                index.len()
-            ));
+    fn new(index: &[u8]) -> Result<Side<'_>, String> {
+        let Header { entries, pages, .. } = header(index);
+        let bytes = index.len();
+        if bytes != LAYOUT.index_bytes(entries, pages) {
+            return Err(format!("{bytes} bytes for E {entries} and P {pages}"));
         }
+        let reached = BTreeSet::new();
         Ok(Side {
             index,
             pages,
-            reached: BTreeSet::new(),
+            reached,
         })
+    }
+
+    /// The level of a page, 0 if it does not exist.
+    fn level(&self, number: u32) -> usize {
+        if (number as usize) < self.pages {
+            stored_page(self.index, number).level
+        } else {
+            0
+        }
     }
 
     /// Reaches a page, which must exist and be new.
@@ -100,30 +99,31 @@ impl Side<'_> {
     }
 }
 
-/// Compares two pages and all below them. `place` names them by the entries
-/// that lead there from the root.
-fn compare_pages(sides: &mut [Side; 2], numbers: [u32; 2], place: &str) -> Result<(), String> {
+/// Compares two pages, which stand on this level, and all below them. `place`
+/// names them by the entries that lead there from the root.
+fn compare_pages(
+    sides: &mut [Side; 2],
+    numbers: [u32; 2],
+    level: usize,
+    place: &str,
+) -> Result<(), String> {
     sides[0].reach(numbers[0], place)?;
     sides[1].reach(numbers[1], place)?;
     let left = stored_page(sides[0].index, numbers[0]);
     let right = stored_page(sides[1].index, numbers[1]);
-    let head = |page: &crate::table::StoredPage| (page.level, page.count);
-    if head(&left) != head(&right) {
-        let (left, right) = (head(&left), head(&right));
+    if [left.level, right.level] != [level, level] || left.count != right.count {
+        let heads = [&left, &right].map(|page| (page.level, page.count));
         return Err(format!(
-            "{place}: level and count {left:?} against {right:?}"
+            "{place}, on level {level}: level and count {heads:?}"
         ));
     }
-    for (i, (left_entry, right_entry)) in left.entries.iter().zip(&right.entries).enumerate() {
-        let place = format!("{place}/{i}");
-        let child = left.level > 0 && i < left.count;
-        if left_entry.0 != right_entry.0 || !child && left_entry != right_entry {
-            return Err(format!(
-                "{place}: entry {left_entry:?} against {right_entry:?}"
-            ));
+    for (i, (one, other)) in left.entries.iter().zip(&right.entries).enumerate() {
+        let parent = level > 0 && i < left.count;
+        if one.0 != other.0 || !parent && one.1 != other.1 {
+            return Err(format!("{place}/{i}: entry {one:?} against {other:?}"));
         }
-        if child {
-            compare_pages(sides, [left_entry.1, right_entry.1], &place)?;
+        if parent {
+            compare_pages(sides, [one.1, other.1], level - 1, &format!("{place}/{i}"))?;
         }
     }
     Ok(())

@@ -4,6 +4,7 @@
 use crate::answer::Answer;
 use crate::calls;
 use crate::claims::claims;
+use crate::compare::compare;
 use crate::index::Room;
 use crate::map::{Lengths, Map};
 use crate::sound::sound;
@@ -122,12 +123,12 @@ pub fn map_call(map: &mut Map, tables: &Tables, call: &Call) -> Outcome {
     }
 }
 
-/// Follows a history through `run`, which makes one call on the tables, and
-/// tests all that is claimed of histories after every call. Gives the tables
-/// at its end.
+/// Follows a history through `run`, which makes one call on the tables or says
+/// why it cannot, and tests all that is claimed of histories after every call.
+/// Gives the tables at its end.
 pub fn follow(
     history: &History,
-    mut run: impl FnMut(&mut Tables, &Call) -> Outcome,
+    mut run: impl FnMut(&mut Tables, &Call) -> Result<Outcome, String>,
 ) -> Result<Tables, Failure> {
     let Shape {
         entries,
@@ -152,7 +153,7 @@ pub fn follow_from(
     mut tables: Tables,
     mut map: Map,
     calls: &[Call],
-    mut run: impl FnMut(&mut Tables, &Call) -> Outcome,
+    mut run: impl FnMut(&mut Tables, &Call) -> Result<Outcome, String>,
 ) -> Result<Tables, Failure> {
     for (before, call) in calls.iter().enumerate() {
         let step = follow_call(&mut map, &mut tables, call, &mut run);
@@ -166,11 +167,11 @@ fn follow_call(
     map: &mut Map,
     tables: &mut Tables,
     call: &Call,
-    run: &mut impl FnMut(&mut Tables, &Call) -> Outcome,
+    run: &mut impl FnMut(&mut Tables, &Call) -> Result<Outcome, String>,
 ) -> Result<(), String> {
     let before = tables.clone();
     let expected = map_call(map, &before, call);
-    let outcome = run(tables, call);
+    let outcome = run(tables, call)?;
     if outcome != expected {
         return Err(format!("{outcome:?} where the map says {expected:?}"));
     }
@@ -179,6 +180,24 @@ fn follow_call(
     }
     claims(tables.lent(), map.width as usize, &map.held)?;
     sound(tables.lent()).map_err(|rule| format!("not sound: {rule}"))
+}
+
+/// Makes every call beside the model, on tables of its own that start as those
+/// of the first call. Answers must be the same, and tables up to page numbers.
+pub fn beside_model(
+    mut run: impl FnMut(&mut Tables, &Call) -> Outcome,
+) -> impl FnMut(&mut Tables, &Call) -> Result<Outcome, String> {
+    let mut model = None;
+    move |tables, made| {
+        let model = model.get_or_insert_with(|| tables.clone());
+        let expected = call(model, made);
+        let outcome = run(tables, made);
+        if outcome != expected {
+            return Err(format!("{outcome:?} where the model says {expected:?}"));
+        }
+        compare(tables.lent(), model.lent())?;
+        Ok(outcome)
+    }
 }
 
 /// Whether the call may change the tables: a done format, on or off.

@@ -35,21 +35,13 @@ pub struct Room {
 impl Index {
     /// The empty herd, "in page 0 as root on level 0".
     pub fn empty(width: usize, most_entries: usize, most_pages: usize, records: usize) -> Index {
-        let empty = Entry {
-            depth: 0,
-            record: None,
-        };
-        let root = Page {
-            number: Some(0),
-            row: Row::Leaves(vec![empty]),
-        };
-        let register = vec![None; records];
+        let empty = Entry::new(0, None);
         Index {
             width,
             most_entries,
             most_pages,
-            root,
-            register,
+            root: Page::new(Some(0), Row::Leaves(vec![empty])),
+            register: vec![None; records],
         }
     }
 

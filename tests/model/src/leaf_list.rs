@@ -15,6 +15,13 @@ pub struct Entry {
     pub record: Option<u32>,
 }
 
+impl Entry {
+    /// The entry of this depth and record.
+    pub fn new(depth: usize, record: Option<u32>) -> Entry {
+        Entry { depth, record }
+    }
+}
+
 /// The leaf list of the herd at this key width.
 pub fn leaf_list(width: usize, herd: &Herd) -> Vec<Entry> {
     let keys: Vec<Vec<bool>> = herd.keys().map(|&key| bits(key, width)).collect();
@@ -31,7 +38,7 @@ pub fn leaf_list(width: usize, herd: &Herd) -> Vec<Entry> {
             // "The last interval includes the key of all ones."
             only_record(herd.range(number(&low)..))
         };
-        list.push(Entry { depth, record });
+        list.push(Entry::new(depth, record));
     }
     list
 }

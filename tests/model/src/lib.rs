@@ -2,6 +2,15 @@
 //!
 //! It shares nothing with the index it is compared with. Quoted words in the
 //! comments are the specification's.
+//!
+//! - What a herd's index is: [`bits`], [`leaf_list`], [`search`], [`pages`],
+//!   [`index`].
+//! - Its tables and calls: [`table`], [`sound`], [`answer`], [`calls`].
+//! - What it is measured against: [`map`], [`claims`], [`history`].
+//! - Tags and the program: [`tag_code`], [`day_book`].
+//! - For comparisons: [`compare`], [`random`], [`shrink`].
+//!
+//! The tests take their seeds from 0 on, or from MODEL_SEED if it is set.
 
 pub mod answer;
 pub mod bits;

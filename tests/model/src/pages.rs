@@ -26,6 +26,11 @@ pub enum Row {
 }
 
 impl Page {
+    /// The page of this number and these entries.
+    pub fn new(number: Option<u32>, row: Row) -> Page {
+        Page { number, row }
+    }
+
     /// The level of the page, 0 for leaves.
     pub fn level(&self) -> usize {
         match &self.row {
@@ -85,7 +90,7 @@ impl Page {
                 Row::Children(children.iter().map(Page::without_numbers).collect())
             }
         };
-        Page { number: None, row }
+        Page::new(None, row)
     }
 
     /// Gives each page that has no number the next one.
@@ -107,11 +112,7 @@ pub fn changed(root: Page, change: &Change, most: usize) -> Page {
     let mut tops = parts(root, change, &mut 0, most);
     while tops.len() > 1 {
         // "Above a cut root comes a new root, itself cut while too long."
-        let new_root = Page {
-            number: None,
-            row: Row::Children(tops),
-        };
-        tops = cut(new_root, most);
+        tops = cut(Page::new(None, Row::Children(tops)), most);
     }
     lowered(tops.pop().expect("the leaf list is never empty"))
 }
@@ -126,21 +127,11 @@ fn parts(page: Page, change: &Change, next: &mut usize, most: usize) -> Vec<Page
     let row = match page.row {
         Row::Leaves(leaves) => Row::Leaves(leaves.into_iter().flat_map(&mut leaf).collect()),
         Row::Children(children) => {
-            let children = children.into_iter();
-            Row::Children(
-                children
-                    .flat_map(|child| parts(child, change, next, most))
-                    .collect(),
-            )
+            let parts = |child| parts(child, change, next, most);
+            Row::Children(children.into_iter().flat_map(parts).collect())
         }
     };
-    cut(
-        Page {
-            number: page.number,
-            row,
-        },
-        most,
-    )
+    cut(Page::new(page.number, row), most)
 }
 
 /// The pages that a page is cut into; the first keeps its number.
@@ -157,7 +148,7 @@ fn cut(page: Page, most: usize) -> Vec<Page> {
     };
     let numbers = std::iter::once(page.number).chain(std::iter::repeat(None));
     let pages = numbers.zip(rows);
-    pages.map(|(number, row)| Page { number, row }).collect()
+    pages.map(|(number, row)| Page::new(number, row)).collect()
 }
 
 /// "A page with more than E entries is cut after its shallowest entry, the
@@ -185,9 +176,6 @@ fn cut_row<T>(mut row: Vec<T>, depth: fn(&T) -> usize, most: usize) -> Vec<Vec<T
 fn lowered(root: Page) -> Page {
     match root.row {
         Row::Children(mut children) if children.len() == 1 => lowered(children.remove(0)),
-        row => Page {
-            number: root.number,
-            row,
-        },
+        row => Page::new(root.number, row),
     }
 }

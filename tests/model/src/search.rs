@@ -48,7 +48,7 @@ pub fn insertion(
     let new = Some(record);
     let Some(old_record) = list[i].record else {
         // "A dummy that is met takes the record."
-        return Change::from([(i, vec![Entry { depth, record: new }])]);
+        return Change::from([(i, vec![Entry::new(depth, new)])]);
     };
     let old_key = keys(old_record);
     let old = Some(old_record);
@@ -59,14 +59,11 @@ pub fn insertion(
     if b > l {
         let between = |p: &usize| l < *p && *p < b;
         let dummies = one_bits(key, width).into_iter().filter(between);
-        row.extend(dummies.map(|depth| Entry {
-            depth,
-            record: None,
-        }));
+        row.extend(dummies.map(|depth| Entry::new(depth, None)));
     }
     let new_first = b > l && key < old_key;
     let (smaller, larger) = if new_first { (new, old) } else { (old, new) };
-    row.extend([(b, smaller), (depth, larger)].map(|(depth, record)| Entry { depth, record }));
+    row.extend([(b, smaller), (depth, larger)].map(|(depth, record)| Entry::new(depth, record)));
     Change::from([(i, row)])
 }
 
@@ -87,19 +84,13 @@ pub fn deletion(list: &[Entry], i: usize) -> Change {
     if i > 0 && list[i - 1].depth > depth {
         let record = list[i - 1].record;
         change.insert(i, vec![]);
-        change.insert(i - 1, vec![Entry { depth, record }]);
+        change.insert(i - 1, vec![Entry::new(depth, record)]);
         take_out_dummies(list, i - 1, depth, &mut change);
     } else if i + 1 < list.len() && depth > list[i + 1].depth {
         change.insert(i, vec![]);
         take_out_dummies(list, i, list[i + 1].depth, &mut change);
     } else {
-        change.insert(
-            i,
-            vec![Entry {
-                depth,
-                record: None,
-            }],
-        );
+        change.insert(i, vec![Entry::new(depth, None)]);
     }
     change
 }

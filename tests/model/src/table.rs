@@ -205,16 +205,13 @@ fn read_page(index: &[u8], number: u32) -> Page {
     } else {
         Row::Children(entries.map(|&(_, child)| read_page(index, child)).collect())
     };
-    Page {
-        number: Some(number),
-        row,
-    }
+    Page::new(Some(number), row)
 }
 
 /// A stored entry of level 0.
 pub fn leaf(depth: usize, pointer: u32) -> Entry {
     let record = (pointer != LAYOUT.nil()).then_some(pointer);
-    Entry { depth, record }
+    Entry::new(depth, record)
 }
 
 /// Writes an index, whose pages all have numbers, into tables of its size.

@@ -3,10 +3,11 @@
 mod common;
 
 use common::seeds;
+use model::claims::claims;
 use model::compare::compare;
-use model::history::{call, follow, Call, Failure, History, Outcome, Shape};
-use model::random::damage::{damaged, DAMAGES};
-use model::random::histories::history;
+use model::history::{beside_model, call, follow, Call, Failure, History, Outcome, Shape};
+use model::random::damage::{damaged, Damage, DAMAGES};
+use model::random::histories::{history, small_shape};
 use model::random::sound_tables::sound_index;
 use model::random::Random;
 use model::shrink::shrink;
@@ -83,10 +84,10 @@ fn other_borders_make_a_difference() {
 
 /// The model, but an off of a key above 9 is forgotten.
 fn forgetful(tables: &mut Tables, made: &Call) -> Outcome {
-    let mut kept = tables.clone();
+    let before = tables.clone();
     let outcome = call(tables, made);
     if matches!(made, Call::Off(key) if *key > 9) {
-        std::mem::swap(tables, &mut kept);
+        *tables = before;
     }
     outcome
 }
@@ -99,7 +100,7 @@ fn a_failing_history_is_shortened_to_what_fails() {
         pages: 60,
         records: 9,
     };
-    let attempt = |history: &History| follow(history, forgetful);
+    let attempt = |history: &History| follow(history, |tables, made| Ok(forgetful(tables, made)));
     for seed in seeds(10) {
         let history = history(&mut Random::new(seed), shape, 400);
         let Err(failure) = attempt(&history) else {
@@ -114,4 +115,89 @@ fn a_failing_history_is_shortened_to_what_fails() {
         assert_eq!(failure.calls, shortest.calls.len());
         assert!(shortest.calls.len() <= 3, "seed {seed}: {shortest:?}");
     }
+}
+
+#[test]
+fn beside_the_model_page_numbers_are_free() {
+    for seed in seeds(40) {
+        let mut random = Random::new(seed);
+        let shape = small_shape(&mut random);
+        let history = history(&mut random, shape, 80);
+        let elsewhere = |tables: &mut Tables, made: &Call| {
+            let before = tables.clone();
+            let outcome = call(tables, made);
+            if *tables != before {
+                *tables = renumbered(&mut random, tables);
+            }
+            outcome
+        };
+        let followed = follow(&history, beside_model(elsewhere));
+        assert_eq!(followed.err(), None, "seed {seed}");
+    }
+}
+
+/// The model, but a find gives the next record and a list writes nothing.
+fn mistaken(tables: &mut Tables, made: &Call) -> Outcome {
+    match (call(tables, made), made) {
+        (Outcome::Answered(mut answer), Call::Find(_)) => {
+            answer.record += 1;
+            Outcome::Answered(answer)
+        }
+        (Outcome::Listed(answer, _), Call::List(_, _, slice)) => {
+            Outcome::Listed(answer, slice.clone())
+        }
+        (outcome, _) => outcome,
+    }
+}
+
+#[test]
+fn beside_the_model_answers_slices_and_tables_are_not() {
+    let shape = Shape {
+        width: 8,
+        entries: 3,
+        pages: 60,
+        records: 9,
+    };
+    let start = [Call::On(20, 0), Call::On(21, 1)];
+    let fails = |last: Call, run: fn(&mut Tables, &Call) -> Outcome| {
+        let calls = [&start[..], &[last]].concat();
+        let failure = follow(&History { shape, calls }, beside_model(run)).err();
+        failure.is_some_and(|failure| failure.calls == 3)
+    };
+    assert!(fails(Call::Find(20), mistaken));
+    assert!(fails(Call::List(0, 255, vec![7; 3]), mistaken));
+    assert!(fails(Call::Off(20), forgetful));
+    assert!(!fails(Call::Off(20), mistaken));
+}
+
+/// The register, the records held and the pages not reached are claimed.
+#[test]
+fn the_claims_of_histories_notice_damage() {
+    let claimed = [
+        Damage::HeldOff,
+        Damage::KeyDoubled,
+        Damage::KeyAltered,
+        Damage::UsedByte,
+        Damage::FreeKey,
+        Damage::StrayInFreePage,
+    ];
+    let mut noticed = 0;
+    for seed in seeds(100) {
+        let mut random = Random::new(seed);
+        let width = random.between(1, 64);
+        let index = sound_index(&mut random, width, 3, 12);
+        let (tables, herd) = (Tables::of(&index), index.herd());
+        assert_eq!(claims(tables.lent(), width, &herd), Ok(()), "seed {seed}");
+        for damage in claimed {
+            let Some(hurt) = damaged(&mut random, &tables, damage) else {
+                continue;
+            };
+            assert!(
+                claims(hurt.lent(), width, &herd).is_err(),
+                "seed {seed} {damage:?}"
+            );
+            noticed += 1;
+        }
+    }
+    assert!(noticed >= 300);
 }

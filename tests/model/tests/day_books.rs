@@ -145,39 +145,43 @@ fn a_list_prints_at_most_32_records() {
     assert_eq!(answer("list\t826000000000001\t826000000000000"), "0");
 }
 
+/// A random line, the map's answer to it and the records it shows if done.
+fn random_line(random: &mut Random, map: &mut Map) -> (String, Answer, Vec<u32>) {
+    let [a, b] = [0, 1].map(|_| random.below(400) as u64);
+    let record = random.below(300) as u64;
+    match random.below(10) {
+        0..=4 => {
+            let answer = map.on(LENGTHS, code(a), record, || ROOM);
+            (format!("on\t826{a:012}\t{record}"), answer, vec![])
+        }
+        5 | 6 => (format!("off\t826{a:012}"), map.off(code(a)), vec![]),
+        7 | 8 => {
+            let answer = map.find(code(a));
+            (
+                format!("find\th{:016x}", code(a)),
+                answer,
+                vec![answer.record],
+            )
+        }
+        _ => {
+            let mut slice = vec![0; 32];
+            let answer = map.list(code(a), code(b), &mut slice);
+            slice.truncate(answer.count as usize);
+            (format!("list\t826{a:012}\t826{b:012}"), answer, slice)
+        }
+    }
+}
+
 #[test]
 fn random_day_books_follow_the_map() {
     for seed in seeds(20) {
         let mut random = Random::new(seed);
         let mut map = Map::new(64);
         let mut book = DayBook::new();
-        for line in 1..=800u64 {
-            let [a, b] = [0, 1].map(|_| random.below(400) as u64);
-            let record = random.below(300) as u64;
-            let (text, answer, records) = match random.below(10) {
-                0..=4 => (
-                    format!("on\t826{a:012}\t{record}"),
-                    map.on(LENGTHS, code(a), record, || ROOM),
-                    vec![],
-                ),
-                5 | 6 => (format!("off\t826{a:012}"), map.off(code(a)), vec![]),
-                7 | 8 => {
-                    let answer = map.find(code(a));
-                    (
-                        format!("find\th{:016x}", code(a)),
-                        answer,
-                        vec![answer.record],
-                    )
-                }
-                _ => {
-                    let mut slice = vec![0; 32];
-                    let answer = map.list(code(a), code(b), &mut slice);
-                    slice.truncate(answer.count as usize);
-                    (format!("list\t826{a:012}\t826{b:012}"), answer, slice)
-                }
-            };
-            let expected = expected_line(line, answer, &records);
-            assert_eq!(book.line(text.as_bytes()), expected, "seed {seed}, {text}");
+        for number in 1..=800 {
+            let (line, answer, records) = random_line(&mut random, &mut map);
+            let expected = expected_line(number, answer, &records);
+            assert_eq!(book.line(line.as_bytes()), expected, "seed {seed}, {line}");
         }
     }
 }

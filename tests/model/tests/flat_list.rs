@@ -25,22 +25,29 @@ fn first_above(list: &[Entry], wanted: u64, width: usize) -> usize {
     panic!("no entry closes the list");
 }
 
-/// Tests one key on one herd: it is put on if it is not held, else taken off.
-fn test_key(width: usize, herd: &Herd, list: &[Entry], key: u64, after: &[Entry]) {
+/// Tests one key on a herd and its list: it is put on the record if it is not
+/// held, else taken off; `after` is the list that must be left.
+fn test_key(width: usize, held: (&Herd, &[Entry]), put: (u64, u32), after: &[Entry]) {
+    let ((herd, list), (key, record)) = (held, put);
     let i = search(list, key, width);
     assert_eq!(i, first_above(list, key, width), "W {width} {herd:?} {key}");
     let change = match herd.get(&key) {
-        Some(&record) => {
-            assert_eq!(list[i].record, Some(record));
+        Some(&held) => {
+            assert_eq!(list[i].record, Some(held));
             deletion(list, i)
         }
         None => {
             let key_of = |record| *herd.iter().find(|held| *held.1 == record).expect("held").0;
-            insertion(list, width, key_of, key, free_record(herd))
+            insertion(list, width, key_of, key, record)
         }
     };
-    let (shown, expected) = (show(&changed(list, &change)), show(after));
-    assert_eq!(shown, expected, "W {width} {herd:?} {key}");
+    let left = changed(list, &change);
+    assert!(
+        left == after,
+        "W {width} {herd:?} {key}: {} for {}",
+        show(&left),
+        show(after)
+    );
 }
 
 /// The lowest record not in use.
@@ -58,40 +65,23 @@ fn other_herd(herd: &Herd, key: u64) -> Herd {
     other
 }
 
-/// Renames the records of a list of the herd of all keys at this width.
-fn renamed(list: &[Entry], name: impl Fn(u32) -> u32) -> Vec<Entry> {
-    let rename = |entry: &Entry| Entry {
-        record: entry.record.map(&name),
-        ..*entry
-    };
-    list.iter().map(rename).collect()
+/// The herd whose keys are the one-bits of `set`, each its own record.
+fn herd_of(set: usize) -> Herd {
+    let held = (0..16).filter(|key| set >> key & 1 == 1);
+    held.map(|key| (key, key as u32)).collect()
 }
 
 #[test]
 fn every_key_on_every_herd_of_up_to_4_bits() {
     for width in 1..=4 {
-        let keys = 1u64 << width;
-        let herd_of = |set: u64| -> Herd {
-            let held = (0..keys).filter(|key| set >> key & 1 == 1);
-            held.map(|key| (key, key as u32)).collect()
-        };
-        let sets = 0..1u64 << keys;
+        let keys = 1 << width;
+        let sets = 0..1 << keys;
         let lists: Vec<Vec<Entry>> = sets.map(|set| leaf_list(width, &herd_of(set))).collect();
         for (set, list) in lists.iter().enumerate() {
-            let herd = herd_of(set as u64);
-            let free = free_record(&herd);
+            let herd = herd_of(set);
             for key in 0..keys {
-                // In the lists each key is its own record; a key put on has the free one.
-                let held = herd.contains_key(&key);
-                let name = |record| {
-                    if record == key as u32 && !held {
-                        free
-                    } else {
-                        record
-                    }
-                };
-                let after = renamed(&lists[set ^ 1 << key], name);
-                test_key(width, &herd, list, key, &after);
+                let after = &lists[set ^ 1 << key];
+                test_key(width, (&herd, list), (u64::from(key), key), after);
             }
         }
     }
@@ -112,7 +102,7 @@ fn random_keys_on_random_herds() {
             _ => key(&mut random, width, spread),
         };
         let after = leaf_list(width, &other_herd(&herd, key));
-        test_key(width, &herd, &list, key, &after);
+        test_key(width, (&herd, &list), (key, free_record(&herd)), &after);
     }
 }
 

@@ -12,7 +12,9 @@ use std::collections::BTreeSet;
 
 /// The model's calls follow the map.
 fn hold(seed: u64, history: &History) {
-    must_hold(seed, history, |history| follow(history, call));
+    must_hold(seed, history, |history| {
+        follow(history, |tables, made| Ok(call(tables, made)))
+    });
 }
 
 #[test]
@@ -97,7 +99,7 @@ fn histories_meet_every_answer_and_high_roots() {
                 answers.insert(answer.number);
             }
             highest = highest.max(read(tables.lent()).root.level());
-            outcome
+            Ok(outcome)
         };
         follow(&history, run).expect("the history holds");
     }

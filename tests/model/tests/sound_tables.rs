@@ -49,8 +49,14 @@ fn calls_from_sound_tables_follow_the_map() {
             width: index.width as u64,
             held: herd,
         };
-        let attempt =
-            |history: &History| follow_from(Tables::of(&index), map.clone(), &history.calls, call);
+        let attempt = |history: &History| {
+            follow_from(
+                Tables::of(&index),
+                map.clone(),
+                &history.calls,
+                |tables, made| Ok(call(tables, made)),
+            )
+        };
         must_hold(seed, &History { shape, calls }, attempt);
     }
 }

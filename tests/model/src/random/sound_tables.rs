@@ -64,7 +64,10 @@ pub fn tree(
     borders: Borders,
 ) -> Option<Page> {
     let rows = draw(random, leaves, |entry| entry.depth, most, borders);
-    let mut pages: Vec<Page> = rows.into_iter().map(|row| page(Row::Leaves(row))).collect();
+    let mut pages: Vec<Page> = rows
+        .into_iter()
+        .map(|row| Page::new(None, Row::Leaves(row)))
+        .collect();
     let mut level = 0;
     while pages.len() > 1 {
         level += 1;
@@ -74,14 +77,10 @@ pub fn tree(
         let rows = draw(random, pages, Page::last_depth, most, borders);
         pages = rows
             .into_iter()
-            .map(|row| page(Row::Children(row)))
+            .map(|row| Page::new(None, Row::Children(row)))
             .collect();
     }
     pages.pop()
-}
-
-fn page(row: Row) -> Page {
-    Page { number: None, row }
 }
 
 /// Parts the row into pages of 1 to `most` entries.
