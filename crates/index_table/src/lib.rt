@@ -1,0 +1,3 @@
+// The index table as bytes: its header and its pages.
+pub mod header;
+pub mod layout;
