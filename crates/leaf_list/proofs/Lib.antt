@@ -34,3 +34,4 @@ pub mod SubHerds
 pub mod CheckTests
 pub mod Check
 pub mod CheckLoop
+pub mod KeyLaws
