@@ -1,0 +1,2 @@
+pub mod NextPositions
+pub mod Stops
