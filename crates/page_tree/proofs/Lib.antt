@@ -7,4 +7,9 @@ pub mod WalkLaws
 pub mod WalkPlaces
 pub mod TreeLaws
 pub mod FindingLaws
+pub mod Replacing
+pub mod Growing
+pub mod InsertionLeaves
+pub mod InsertionSound
+pub mod InsertionPages
 pub mod SmallPages
