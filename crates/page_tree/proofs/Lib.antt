@@ -12,4 +12,7 @@ pub mod Growing
 pub mod InsertionLeaves
 pub mod InsertionSound
 pub mod InsertionPages
+pub mod DeletionLeaves
+pub mod DeletionSteps
+pub mod DeletionSound
 pub mod SmallPages
