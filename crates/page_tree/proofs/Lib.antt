@@ -15,4 +15,6 @@ pub mod InsertionPages
 pub mod DeletionLeaves
 pub mod DeletionSteps
 pub mod DeletionSound
+pub mod DeletionTrees
+pub mod DeletionPages
 pub mod SmallPages
