@@ -56,17 +56,13 @@ module _ (E : ℕ) (new : Replacement) where
       pub root-row-short : length (insertBelow E new (suc n) bs τ page) ≤ suc m
       root-row-short = omega (arith, insertBelow-inPlace (suc n) bs τ page s a e q .few)
 
-module _ (E m : ℕ) (new : Replacement) (bs : List ℕ) (t : Tree) (two : 2 ≤ E) (s : SoundTree E t) (a : Rising bs) (e : Beyond (depth (suc (t .0)) (t .1)) bs) (q : Fits m new (findFlat bs 0 (leavesOf t))) where
-  -- The entry found below the root is the one found on level 0.
-  fits-root : Fits m new (findIn bs t)
-  fits-root = rw (findIn-leaves E bs t s a e) q
-
+module _ (E m : ℕ) (new : Replacement) (bs : List ℕ) (t : Tree) (two : 2 ≤ E) (s : SoundTree E t) (a : Rising bs) (e : Beyond (depth (suc (t .0)) (t .1)) bs) (q : Fits m new (findIn bs t)) where
   -- The parts of the root.
   abbrev roots : List (Node (suc (t .0)))
   roots = insertBelow E new (suc (t .0)) bs 0 (t .1)
 
   roots-inPlace : InPlace (depth (suc (t .0))) (Sound E (suc (t .0))) m (depth (suc (t .0)) (t .1)) (t .1 ∷ []) roots
-  roots-inPlace = insertBelow-inPlace E new m (omega arith) (suc (t .0)) bs 0 (t .1) s a e fits-root
+  roots-inPlace = insertBelow-inPlace E new m (omega arith) (suc (t .0)) bs 0 (t .1) s a e q
 
   -- The pages' rules hold afterwards.
   pub insertTree-sound : SoundTree E (insertTree E new bs t)
@@ -80,5 +76,5 @@ module _ (E m : ℕ) (new : Replacement) (bs : List ℕ) (t : Tree) (two : 2 ≤
       row = replaceIn (depth (t .0)) (insertBelow E new (t .0)) bs 0 (t .1)
 
       cases : (roots ≡ row ∷ []) ⊎ (2 ≤ length roots) → RootRule (grown E (t .0) roots)
-      cases (inl w) = rw w (λ g. omega (arith, r g, row-inPlace E new m (omega arith) (t .0) bs 0 (t .1) s a e fits-root .longer))
+      cases (inl w) = rw w (λ g. omega (arith, r g, row-inPlace E new m (omega arith) (t .0) bs 0 (t .1) s a e q .longer))
       cases (inr k) = λ g. grow-sound E two (length roots) (t .0) roots (depth (suc (t .0)) (t .1)) (roots-inPlace .closed) (roots-inPlace .good) (omega arith) .1 k

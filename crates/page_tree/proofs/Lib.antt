@@ -17,4 +17,8 @@ pub mod DeletionSteps
 pub mod DeletionSound
 pub mod DeletionTrees
 pub mod DeletionPages
+pub mod LastAlone
+pub mod FlatInsertion
+pub mod FlatDeletion
+pub mod HerdPages
 pub mod SmallPages
