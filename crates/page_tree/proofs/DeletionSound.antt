@@ -9,17 +9,17 @@ use lib.Dec.{ltb}
 use lib.ListN.{length, length-append}
 use borrow.Author.Tests.{ltb-true, ltb-false, lt-ltb}
 use Rattle.leaf_list.specs.Entries.{Entry, entry}
-use Rattle.leaf_list.proofs.Positions.{Beyond, Rising, beyond-less}
+use Rattle.leaf_list.proofs.Positions.{Beyond, Rising}
 use Rattle.leaf_list.proofs.Depths.{Neighbours}
+use Rattle.leaf_list.proofs.Lists.{all-append}
 use Rattle.page_tree.specs.declared.Unwind.{Unwind}
 use Rattle.page_tree.specs.declared.Unwind.the-variants.{Idle, Give, Clear}
 use Rattle.page_tree.specs.Rows.{All, flats, Closed}
 use Rattle.page_tree.specs.Tree.{Node, depth, leaves, Sound, Tree, leavesOf, SoundTree, RootRule}
 use Rattle.page_tree.specs.Walk.{rest, walk}
 use Rattle.page_tree.specs.OffPages.{Left, Step, over, unlessEmpty, stepBelow, nextDepth, strike, strikeIn, deleteBelow, lower, rooted, deleteTree}
-use Rattle.page_tree.proofs.ListLaws.{all-append}
 use Rattle.page_tree.proofs.ClosedRows.{closed-append, closed-deeper, closed-replace}
-use Rattle.page_tree.proofs.WalkLaws.{rest-rising, rest-beyond, first-beyond, walk-stop}
+use Rattle.page_tree.proofs.WalkLaws.{beyond-less, rest-rising, rest-beyond, first-beyond, walk-stop}
 use Rattle.page_tree.proofs.DeletionLeaves.{deleteFlat, deleteBelow-leaves}
 use Rattle.page_tree.proofs.DeletionSteps.{neighbours-left, neighbours-right, Stays, Calm, StepLaws, over-calm, stays-page, stepBelow-laws}
 

@@ -10,12 +10,12 @@ use lib.Dec.{ltb}
 use lib.ListN.{length, length-append}
 use Rattle.leaf_list.specs.Entries.{Entry, entry}
 use Rattle.leaf_list.proofs.Depths.{Neighbours, neighbours-tail}
+use Rattle.leaf_list.proofs.Lists.{all-append}
 use Rattle.page_tree.specs.declared.Unwind.{Unwind}
 use Rattle.page_tree.specs.declared.Unwind.the-variants.{Idle, Give, Clear}
 use Rattle.page_tree.specs.Rows.{All, flats, Closed}
 use Rattle.page_tree.specs.Tree.{Node, depth, leaves, Sound}
 use Rattle.page_tree.specs.OffPages.{Left, Step, stepEntry, over, sweep, unlessEmpty, stepBelow}
-use Rattle.page_tree.proofs.ListLaws.{all-append}
 use Rattle.page_tree.proofs.ClosedRows.{closed-last, closed-cons, closed-append, closed-deeper, closed-nonempty, closed-page}
 use Rattle.page_tree.proofs.TreeLaws.{closed-leaves}
 

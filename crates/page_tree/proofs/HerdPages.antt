@@ -11,7 +11,7 @@ use Rattle.leaf_list.specs.Herd.{Herd, Narrow, Sorted, KeysOf, lookup, add, rem
 use Rattle.leaf_list.specs.LeafList.{leafList}
 use Rattle.leaf_list.specs.Search.{positions, search, pointerAt, compared}
 use Rattle.leaf_list.proofs.Bits.{bits-length}
-use Rattle.leaf_list.proofs.Positions.{Beyond, Rising, positions-rise}
+use Rattle.leaf_list.proofs.Positions.{Beyond, positions-beyond, positions-rise}
 use Rattle.leaf_list.proofs.Laws.{find-law, insertion-law, found-law, deletion-law, closed-law, neighbours-law}
 use Rattle.page_tree.specs.Rows.{Closed, lastDepth}
 use Rattle.page_tree.specs.Tree.{Node, depth, leaves, Tree, leavesOf, SoundTree, RootRule}
@@ -50,13 +50,13 @@ module _ (w E : ℕ) (s : Herd) (t : Tree) (narrow : Narrow w s) (sorted : Sorte
 
   -- The positions of a key are past it.
   pub positions-past : (k : Key) → Beyond (depth (suc (t .0)) (t .1)) (positions 0 k)
-  positions-past k = rw root-depth (positions-rise k 0 .1)
+  positions-past k = rw root-depth (positions-beyond 0 0 k (omega arith))
 
   -- What figure 6 finds level by level is what the search of the leaf list finds.
   found-in-list : (k : Key) → FoundAt (findIn (positions 0 k) t) (search [] (positions 0 k) (leafList w s))
   found-in-list k =
-      rw (findIn-leaves E (positions 0 k) t (h .sound) (positions-rise k 0 .0) (positions-past k), h .level0)
-      (findFlat-search [] (leafList w s) (positions 0 k) list-closed (positions-rise k 0 .1))
+      rw (findIn-leaves E (positions 0 k) t (h .sound) (positions-rise 0 k) (positions-past k), h .level0)
+      (findFlat-search [] (leafList w s) (positions 0 k) list-closed (positions-beyond 0 0 k (omega arith)))
 
   -- "Only a live leaf yields a record, and its key is then compared whole": find in pages gives the record that the herd has.
   pub find-in-pages : (keyOf : ℕ → ℕ) (key : ℕ) → key < 2 ^ w → KeysOf keyOf s
@@ -83,10 +83,10 @@ module _ (w E : ℕ) (s : Herd) (t : Tree) (narrow : Narrow w s) (sorted : Sorte
       let new = newEntries (λ x. bits w (keyOf x)) k r in
       let fits = new-fits keyOf key r n g a in
       record {
-        sound = insertTree-sound E w new (positions 0 k) t two (h .sound) (positions-rise k 0 .0) (positions-past k) fits;
-        root = insertTree-root E w new (positions 0 k) t two (h .sound) (positions-rise k 0 .0) (positions-past k) fits (h .root);
+        sound = insertTree-sound E w new (positions 0 k) t two (h .sound) (positions-rise 0 k) (positions-past k) fits;
+        root = insertTree-root E w new (positions 0 k) t two (h .sound) (positions-rise 0 k) (positions-past k) fits (h .root);
         level0 =
-            insertTree-leaves E new (positions 0 k) t (h .sound) (positions-rise k 0 .0) (positions-past k)
+            insertTree-leaves E new (positions 0 k) t (h .sound) (positions-rise 0 k) (positions-past k)
             ∙ ap (replaceIn (depth 0) new (positions 0 k) 0) (h .level0)
             ∙ replaceIn-insertInto (λ x. bits w (keyOf x)) k r (leafList w s) [] (positions 0 k)
             ∙ insertion-law keyOf w key r s n narrow sorted g a;
@@ -96,14 +96,14 @@ module _ (w E : ℕ) (s : Herd) (t : Tree) (narrow : Narrow w s) (sorted : Sorte
   pub off-pages : (key r : ℕ) → key < 2 ^ w → lookup key s ≡ some r → HerdTree w E (remove key s) (offTree w key t)
   off-pages key r n a =
       let k : Key = bits w key in
-      let o = deleteTree-sound E (positions 0 k) t (h .sound) (positions-rise k 0 .0) root-depth (positions-rise k 0 .1) (rw (h .level0) (neighbours-law w s narrow sorted)) in
+      let o = deleteTree-sound E (positions 0 k) t (h .sound) (positions-rise 0 k) root-depth (positions-beyond 0 0 k (omega arith)) (rw (h .level0) (neighbours-law w s narrow sorted)) in
       record {
         sound = o .0;
         root = o .1;
         level0 =
-            deleteTree-leaves E (positions 0 k) t (h .sound) (positions-rise k 0 .0) (positions-past k)
+            deleteTree-leaves E (positions 0 k) t (h .sound) (positions-rise 0 k) (positions-past k)
             ∙ ap (λ (es : List Entry). deleteFlat 0 (positions 0 k) 0 es .0) (h .level0)
             ∙ sym (settle-first (deleteFlat 0 (positions 0 k) 0 (leafList w s) .1) (deleteFlat 0 (positions 0 k) 0 (leafList w s) .0))
-            ∙ sym (deleteFrom-flat (leafList w s) [] (positions 0 k) list-closed (positions-rise k 0 .1))
+            ∙ sym (deleteFrom-flat (leafList w s) [] (positions 0 k) list-closed (positions-beyond 0 0 k (omega arith)))
             ∙ deletion-law w key r s n narrow sorted a;
       }

@@ -7,14 +7,14 @@ use native.Mathlib.Omega.{arith}
 use lib.Dec.{ltb}
 use lib.ListN.{length, length-append}
 use borrow.Author.Tests.{ltb-true, lt-ltb}
-use Rattle.leaf_list.proofs.Positions.{Beyond, Rising, beyond-less}
+use Rattle.leaf_list.proofs.Positions.{Beyond, Rising}
+use Rattle.leaf_list.proofs.Lists.{all-append}
 use Rattle.page_tree.specs.Rows.{All, Closed}
 use Rattle.page_tree.specs.Walk.{rest, walk}
 use Rattle.page_tree.specs.Finding.{Found, nowhere}
 use Rattle.page_tree.specs.OnPages.{replaceIn}
-use Rattle.page_tree.proofs.ListLaws.{all-append}
 use Rattle.page_tree.proofs.ClosedRows.{closed-cons, closed-replace}
-use Rattle.page_tree.proofs.WalkLaws.{rest-rising, rest-beyond, first-beyond}
+use Rattle.page_tree.proofs.WalkLaws.{beyond-less, rest-rising, rest-beyond, first-beyond}
 
 -- The row ys may stand in the place of the row xs that c closes.
 pub record InPlace {A : Type 0} (depth : A → ℕ) (Good : A → Type 0) (m c : ℕ) (xs ys : List A) : Type 0 where
