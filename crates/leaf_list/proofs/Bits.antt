@@ -5,7 +5,7 @@ use mathlib.Core.Bool.{false, true, true≢false, Bool}
 use mathlib.Core.List.{_∷_, []}
 use Prim.Native.Nat.{ℕ, zero, suc, _<_, _*_, _^_, _+_, _%_, _/_, _≤_, _-_}
 use native.Mathlib.Omega.{arith}
-use native.Mathlib.Nat.{zero-mul, one-mul, mod-lt, pow-suc, mod-eq-of-lt, div-eq-of-lt, mul-add-div-right, add-mul, zero-add}
+use native.Mathlib.Nat.{zero-mul, one-mul, mod-lt, mod-eq-of-lt, pow-suc, div-eq-of-lt, mul-add-div-right, add-mul, zero-add}
 use native.Mathlib.Numerals.{one-add}
 use lib.Dec.{eqb, ltb}
 use lib.Pow.{mod-pow-add, pow-add, pow-pos}
@@ -27,7 +27,12 @@ value-cons (suc (suc q)) k h = absurd (omega arith)
 -- The value of the last n bits of a number.
 pub value-bits : (n x : ℕ) → value (bits n x) ≡ x % 2 ^ n
 value-bits zero x = omega arith
-value-bits (suc n) x = value-cons (x / 2 ^ n % 2) (bits n x) (mod-lt (x / 2 ^ n) (omega arith)) ∙ rw (bits-length n x, value-bits n x, ← (mod-pow-add x 1 n), one-add n)
+value-bits (suc n) x =
+    value-cons (x / 2 ^ n % 2) (bits n x) (mod-lt (x / 2 ^ n) (omega arith)) ∙ rw (bits-length n x, value-bits n x, ← (mod-pow-add x 1 n), one-add n)
+
+-- A number of n bits is the value of its bits.
+pub value-number : (n x : ℕ) → x < 2 ^ n → value (bits n x) ≡ x
+value-number n x h = value-bits n x ∙ mod-eq-of-lt h
 
 -- A key of n bits is below 2 ^ n.
 pub value-bound : (k : Key) → value k < 2 ^ length k
@@ -71,7 +76,7 @@ pub sameKey-bits : (n x y : ℕ) → x < 2 ^ n → y < 2 ^ n → x ≢ y → sam
 sameKey-bits n x y hx hy d = go (sameKey (bits n x) (bits n y)) refl
   where
     go : (t : Bool) → sameKey (bits n x) (bits n y) ≡ t → t ≡ false
-    go true e = absurd (d (sym (mod-eq-of-lt hx) ∙ sym (value-bits n x) ∙ ap value (sameKey-equal (bits n x) (bits n y) e) ∙ value-bits n y ∙ mod-eq-of-lt hy))
+    go true e = absurd (d (sym (value-number n x hx) ∙ ap value (sameKey-equal (bits n x) (bits n y) e) ∙ value-number n y hy))
     go false e = refl
 
 -- The order of two sums with one part in common.
@@ -92,6 +97,10 @@ below-value (false ∷ k) (false ∷ k′) e = below-value k k′ (omega arith)
 below-value (false ∷ k) (true ∷ k′) e = rw (lt-ltb (value k) (2 ^ length k′ + value k′) (omega (arith, value-bound k, power-length k k′ (omega arith))))
 below-value (true ∷ k) (false ∷ k′) e = rw (le-ltb (2 ^ length k + value k) (value k′) (omega (arith, value-bound k′, power-length k k′ (omega arith))))
 below-value (true ∷ k) (true ∷ k′) e = rw (power-length k k′ (omega arith), add-ltb (2 ^ length k′) (value k) (value k′)) (below-value k k′ (omega arith))
+
+-- The order of numbers is the order of their bits.
+pub below-bits : (n x y : ℕ) → x < 2 ^ n → y < 2 ^ n → below (bits n x) (bits n y) ≡ ltb x y
+below-bits n x y hx hy = below-value (bits n x) (bits n y) (bits-length n x ∙ sym (bits-length n y)) ∙ rw (value-number n x hx, value-number n y hy)
 
 -- n zeros are n bits.
 pub zeroBits-length : (n : ℕ) → length (zeroBits n) ≡ n
@@ -123,7 +132,9 @@ pub setBit-value : (D : Key) (d j : ℕ) → length D ≡ d + suc j → value (s
 setBit-value [] d j h = absurd (omega arith)
 setBit-value (x ∷ D) zero j h =
     let e : length D ≡ j = omega arith in
-    rw (div-eq-of-lt (subst (λ (i : ℕ). value (x ∷ D) < 2 ^ suc i) e (value-bound (x ∷ D))), zero-mul, zeroBits-length (length D), value-zeroBits (length D), e) (omega arith)
+    rw
+    (div-eq-of-lt (subst (λ (i : ℕ). value (x ∷ D) < 2 ^ suc i) e (value-bound (x ∷ D))), zero-mul, zeroBits-length (length D), value-zeroBits (length D), e)
+    (omega arith)
 setBit-value (false ∷ D) (suc d) j h = setBit-value D d j (omega arith)
 setBit-value (true ∷ D) (suc d) j h =
     let e : length D ≡ d + suc j = omega arith in

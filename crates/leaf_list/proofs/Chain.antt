@@ -25,16 +25,22 @@ chain-cons b n lo (p ∷ ps) h = (ap (λ (x : Key). b ∷ x) (h .0), chain-cons 
 pub chain-middle : (n : ℕ) (lo : Key) (ps qs : List Key) → length lo ≡ n → StemChain n lo ps → StemChain (suc n) (true ∷ zeroBits n) qs
     → StemChain (suc n) (false ∷ lo) (map (λ v. false ∷ v) ps ++ ([] ∷ qs))
 chain-middle n lo [] qs e h g = rw e (refl, g)
-chain-middle n lo (p ∷ ps) qs e h g = (ap (λ (x : Key). false ∷ x) (h .0), chain-middle n (setBit (suc (length p)) lo) ps qs (setBit-length (suc (length p)) lo ∙ e) (h .1) g)
+chain-middle n lo (p ∷ ps) qs e h g =
+    (ap (λ (x : Key). false ∷ x) (h .0), chain-middle n (setBit (suc (length p)) lo) ps qs (setBit-length (suc (length p)) lo ∙ e) (h .1) g)
 
 -- One bit of the chain, by which sides have keys.
-module _ (n : ℕ) (s : List Item) (cz : StemChain n (zeroBits n) (boundingStems n (zeroSide s))) (co : StemChain n (zeroBits n) (boundingStems n (oneSide s))) where
+module _ (n : ℕ) (s : List Item) (cz : StemChain n (zeroBits n) (boundingStems n (zeroSide s)))
+    (co : StemChain n (zeroBits n) (boundingStems n (oneSide s))) where
   chain-sides : (z o : List Item) → zeroSide s ≡ z → oneSide s ≡ o → StemChain (suc n) (zeroBits (suc n)) (boundingStems (suc n) s)
-  chain-sides z [] ez eo = rw (boundingStems-suc n s, count-one [] s, eo, boundingStems-nil n, append-nil) (chain-cons false n (zeroBits n) (boundingStems n (zeroSide s)) cz)
+  chain-sides z [] ez eo =
+      rw (boundingStems-suc n s, count-one [] s, eo, boundingStems-nil n, append-nil) (chain-cons false n (zeroBits n) (boundingStems n (zeroSide s)) cz)
   chain-sides [] (item k r ∷ []) ez eo = rw (boundingStems-suc n s, count-one [] s, count-zero [] s, ez, eo, boundingStems-nil n, boundingStems-single n k r) tt
-  chain-sides [] (x ∷ y ∷ o) ez eo = rw (boundingStems-suc n s, boundingStem-two s (rw eo (omega arith))) (chain-middle n (zeroBits n) (boundingStems n (zeroSide s)) _ (zeroBits-length n) cz (chain-cons true n (zeroBits n) (boundingStems n (oneSide s)) co))
+  chain-sides [] (x ∷ y ∷ o) ez eo =
+      rw (boundingStems-suc n s, boundingStem-two s (rw eo (omega arith)))
+      (chain-middle n (zeroBits n) (boundingStems n (zeroSide s)) _ (zeroBits-length n) cz (chain-cons true n (zeroBits n) (boundingStems n (oneSide s)) co))
   chain-sides (x ∷ z) (y ∷ o) ez eo =
-      rw (boundingStems-suc n s, boundingStem-both s (rw eo (omega arith)) (rw ez (omega arith))) (chain-middle n (zeroBits n) (boundingStems n (zeroSide s)) _ (zeroBits-length n) cz (chain-cons true n (zeroBits n) (boundingStems n (oneSide s)) co))
+      rw (boundingStems-suc n s, boundingStem-both s (rw eo (omega arith)) (rw ez (omega arith)))
+      (chain-middle n (zeroBits n) (boundingStems n (zeroSide s)) _ (zeroBits-length n) cz (chain-cons true n (zeroBits n) (boundingStems n (oneSide s)) co))
 
 -- The bounding nodes of keys of n bits.
 pub chain-stems : (n : ℕ) (s : List Item) → StemChain n (zeroBits n) (boundingStems n s)

@@ -36,7 +36,8 @@ dummiesStart es d (suc i) = let r : ℕ = dummiesStart es d i in cond (isDummy (
 -- The entry i is no 1-leaf.
 abbrev pub deleteOtherIndex : List Entry → ℕ → List Entry
 deleteOtherIndex es i =
-    cond (ltb (suc i) (length es) && ltb (depthOf (entryAt es (suc i))) (depthOf (entryAt es i))) (take (dummiesStart es (depthOf (entryAt es (suc i))) i) es ++ drop (suc i) es)
+    cond (ltb (suc i) (length es) && ltb (depthOf (entryAt es (suc i))) (depthOf (entryAt es i)))
+    (take (dummiesStart es (depthOf (entryAt es (suc i))) i) es ++ drop (suc i) es)
     (set es i (entry (depthOf (entryAt es i)) none))
 
 -- Figure 11 at the entry i.
@@ -56,17 +57,21 @@ pub dropDummies-index : (es : List Entry) (d i : ℕ) → i ≤ length es → dr
 dropDummies-index es d zero h = refl
 dropDummies-index es d (suc i) h = rw (stack-take es i h) (go (entryAt es i) (stack-take es i h) (dropDummies-index es d i (omega arith)))
   where
-    go : (e : Entry) → reverseAux (take (suc i) es) [] ≡ e ∷ reverseAux (take i es) [] → dropDummies d (reverseAux (take i es) []) ≡ reverseAux (take (dummiesStart es d i) es) []
+    go : (e : Entry) → reverseAux (take (suc i) es) [] ≡ e ∷ reverseAux (take i es) []
+        → dropDummies d (reverseAux (take i es) []) ≡ reverseAux (take (dummiesStart es d i) es) []
         → dropDummies d (e ∷ reverseAux (take i es) []) ≡ reverseAux (take (cond (isDummy e && ltb d (depthOf e)) (dummiesStart es d i) (suc i)) es) []
     go (entry d′ (some r)) q ih = sym q
     go (entry d′ none) q ih = by (ltb d d′)
       where
-        by : (t : Bool) → cond t (dropDummies d (reverseAux (take i es) [])) (entry d′ none ∷ reverseAux (take i es) []) ≡ reverseAux (take (cond t (dummiesStart es d i) (suc i)) es) []
+        by : (t : Bool)
+            → cond t (dropDummies d (reverseAux (take i es) [])) (entry d′ none ∷ reverseAux (take i es) [])
+            ≡ reverseAux (take (cond t (dummiesStart es d i) (suc i)) es) []
         by true = ih
         by false = sym q
 
 -- No 1-leaf, by index.
-pub deleteOther-index : (es : List Entry) (i : ℕ) → i < length es → deleteOther (reverseAux (take i es) []) (depthOf (entryAt es i)) (drop (suc i) es) ≡ deleteOtherIndex es i
+pub deleteOther-index : (es : List Entry) (i : ℕ) → i < length es
+    → deleteOther (reverseAux (take i es) []) (depthOf (entryAt es i)) (drop (suc i) es) ≡ deleteOtherIndex es i
 deleteOther-index es i h = go (ltb (suc i) (length es)) refl
   where
     d : ℕ
@@ -83,25 +88,29 @@ deleteOther-index es i h = go (ltb (suc i) (length es)) refl
         by : (t : Bool)
             → cond t (reverseAux (dropDummies d′ (reverseAux (take i es) [])) (entry d′ p′ ∷ drop (suc (suc i)) es))
             (reverseAux (reverseAux (take i es) []) (entry d none ∷ entry d′ p′ ∷ drop (suc (suc i)) es))
-            ≡ cond t (take (dummiesStart es d′ i) es ++ (entry d′ p′ ∷ drop (suc (suc i)) es)) (reverseAux (reverseAux (take i es) []) (entry d none ∷ entry d′ p′ ∷ drop (suc (suc i)) es))
+            ≡ cond t (take (dummiesStart es d′ i) es ++ (entry d′ p′ ∷ drop (suc (suc i)) es))
+            (reverseAux (reverseAux (take i es) []) (entry d none ∷ entry d′ p′ ∷ drop (suc (suc i)) es))
         by true = rw (dropDummies-index es d′ i (omega arith)) (put-back (take (dummiesStart es d′ i) es) [] (entry d′ p′ ∷ drop (suc (suc i)) es))
         by false = refl
 
     go : (t : Bool) → ltb (suc i) (length es) ≡ t
         → deleteOther (reverseAux (take i es) []) d (drop (suc i) es)
-        ≡ cond (t && ltb (depthOf (entryAt es (suc i))) d) (take (dummiesStart es (depthOf (entryAt es (suc i))) i) es ++ drop (suc i) es) (set es i (entry d none))
+        ≡ cond (t && ltb (depthOf (entryAt es (suc i))) d) (take (dummiesStart es (depthOf (entryAt es (suc i))) i) es ++ drop (suc i) es)
+        (set es i (entry d none))
     go true e = next (entryAt es (suc i)) (drop-cons es (suc i) sole (ltb-true (suc i) (length es) e))
     go false e = rw (put, drop-of-length-le es {i = suc i} (ltb-false (suc i) (length es) e))
 
 -- An entry is its depth and its pointer.
-pub deleteAt-entry : (before : List Entry) (e : Entry) (rest : List Entry) → deleteAt before (e ∷ rest) ≡ deleteAt before (entry (depthOf e) (pointerOf e) ∷ rest)
+pub deleteAt-entry : (before : List Entry) (e : Entry) (rest : List Entry)
+    → deleteAt before (e ∷ rest) ≡ deleteAt before (entry (depthOf e) (pointerOf e) ∷ rest)
 deleteAt-entry before (entry d p) rest = refl
 
 -- After an entry, by index.
 pub deleteAt-suc : (es : List Entry) (j : ℕ) (p : Option ℕ) (e : Entry) → suc j < length es → reverseAux (take (suc j) es) [] ≡ e ∷ reverseAux (take j es) []
     → deleteAt (reverseAux (take (suc j) es) []) (entry (depthOf (entryAt es (suc j))) p ∷ drop (suc (suc j)) es)
     ≡ cond (ltb (depthOf (entryAt es (suc j))) (depthOf e))
-    (take (dummiesStart es (depthOf (entryAt es (suc j))) j) es ++ entry (depthOf (entryAt es (suc j))) (pointerOf e) ∷ drop (suc (suc j)) es) (deleteOtherIndex es (suc j))
+    (take (dummiesStart es (depthOf (entryAt es (suc j))) j) es ++ entry (depthOf (entryAt es (suc j))) (pointerOf e) ∷ drop (suc (suc j)) es)
+    (deleteOtherIndex es (suc j))
 deleteAt-suc es j p (entry d₁ p₁) h q = rw q (by (ltb D d₁))
   where
     D : ℕ
@@ -110,7 +119,8 @@ deleteAt-suc es j p (entry d₁ p₁) h q = rw q (by (ltb D d₁))
     X : List Entry
     X = drop (suc (suc j)) es
 
-    by : (t : Bool) → cond t (reverseAux (dropDummies D (reverseAux (take j es) [])) (entry D p₁ ∷ X)) (deleteOther (entry d₁ p₁ ∷ reverseAux (take j es) []) D X)
+    by : (t : Bool)
+        → cond t (reverseAux (dropDummies D (reverseAux (take j es) [])) (entry D p₁ ∷ X)) (deleteOther (entry d₁ p₁ ∷ reverseAux (take j es) []) D X)
         ≡ cond t (take (dummiesStart es D j) es ++ entry D p₁ ∷ X) (deleteOtherIndex es (suc j))
     by true = rw (dropDummies-index es D j (omega arith)) (put-back (take (dummiesStart es D j) es) [] (entry D p₁ ∷ X))
     by false = rw q at (deleteOther-index es (suc j) h)

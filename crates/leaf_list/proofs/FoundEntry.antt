@@ -16,10 +16,10 @@ use Rattle.leaf_list.specs.Search.{search, positions}
 use Rattle.leaf_list.specs.Insertion.{leafDepth, trailing}
 use Rattle.leaf_list.proofs.Bits.{bits-length}
 use Rattle.leaf_list.proofs.Paths.{Differ, firstDifference-path, firstDifference-above}
-use Rattle.leaf_list.proofs.Tries.{Branching, Pruned, KeysIn, lastRecord, lastBits, key-of-last, NotHeld, Given, notHeld-reaches}
+use Rattle.leaf_list.proofs.Tries.{Branching, Pruned, KeysIn, lastRecord, lastBits, key-of-last, NotHeld, AtLeaf, at-branching, at-leaf, Given, Reaches}
 use Rattle.leaf_list.proofs.Places.{passFront, trailing-front, passed, remaining, stops-shallow, search-node}
-use Rattle.leaf_list.proofs.TrieInsertion.{leafDepth-max, DepthRule, depthRule-branching, depthRule}
-use Rattle.leaf_list.proofs.TrieOf.{trieOf-notHeld, trieOf-pruned, trieOf-keys}
+use Rattle.leaf_list.proofs.TrieInsertion.{leafDepth-max}
+use Rattle.leaf_list.proofs.TrieOf.{trieOf-reaches, trieOf-notHeld, trieOf-pruned, trieOf-keys}
 use Rattle.leaf_list.proofs.HerdLaws.{lookup-absent}
 use Rattle.leaf_list.proofs.HerdItems.{items-lengths, items-noKey, items-keys}
 
@@ -69,37 +69,38 @@ module _ (keyOf : ℕ → Key) where
 
   -- The entry found in a node.
   pub other-node : (t : Trie) (u k : Key) (c : ℕ) (before rest : List Entry)
-      → NotHeld k t → Pruned t → KeysIn keyOf u t → c ≤ length u → trailing before ≤ length u → DepthRule t (trailing before) c (length u)
+      → NotHeld k t → Pruned t → KeysIn keyOf u t → c ≤ length u → trailing before ≤ length u → AtLeaf (max (trailing before) c ≡ length u) t
       → FoundOther keyOf (reverseAux u k) (trailing (passed (length u) t k before)) (remaining (length u) t k c rest)
-  other-node (leaf k′ r) u k c before rest f g q hc hL e = other-at-leaf u k k′ r c (trailing before) f q e
-  other-node (zero-only t) u [] c before rest f g q hc hL e = absurd f
-  other-node (zero-only t) u (false ∷ k) c before rest f g q hc hL e =
-      other-node t (false ∷ u) k c before rest f (g .1) q (omega arith) (omega arith) (depthRule-branching t (trailing before) c (suc (length u)) (g .0))
-  other-node (zero-only t) u (true ∷ k) c before rest f g q hc hL e = other-after-zeros u k t c before (g .0) (g .1) q hc
-  other-node (one-only t) u [] c before rest f g q hc hL e = absurd f
-  other-node (one-only t) u (false ∷ k) c before rest f g q hc hL e = tt
-  other-node (one-only t) u (true ∷ k) c before rest f g q hc hL e =
-      other-node t (true ∷ u) k c (entry (suc (length u)) none ∷ before) rest f (g .1) q (omega arith) (omega arith) (depthRule-branching t _ c _ (g .0))
-  other-node (fork a b) u [] c before rest f g q hc hL e = absurd f
-  other-node (fork a b) u (false ∷ k) c before rest f g q hc hL e =
+  other-node (leaf k′ r) u k c before rest f g q hc hτ e = other-at-leaf u k k′ r c (trailing before) f q e
+  other-node (zero-only t) u [] c before rest f g q hc hτ e = absurd f
+  other-node (zero-only t) u (false ∷ k) c before rest f g q hc hτ e =
+      other-node t (false ∷ u) k c before rest f (g .1) q (omega arith) (omega arith) (at-branching _ t (g .0))
+  other-node (zero-only t) u (true ∷ k) c before rest f g q hc hτ e = other-after-zeros u k t c before (g .0) (g .1) q hc
+  other-node (one-only t) u [] c before rest f g q hc hτ e = absurd f
+  other-node (one-only t) u (false ∷ k) c before rest f g q hc hτ e = tt
+  other-node (one-only t) u (true ∷ k) c before rest f g q hc hτ e =
+      other-node t (true ∷ u) k c (entry (suc (length u)) none ∷ before) rest f (g .1) q (omega arith) (omega arith) (at-branching _ t (g .0))
+  other-node (fork a b) u [] c before rest f g q hc hτ e = absurd f
+  other-node (fork a b) u (false ∷ k) c before rest f g q hc hτ e =
       other-node a (false ∷ u) k (suc (length u)) before (write (suc (length u)) b c rest) f (g .0) (q .0) (omega arith) (omega arith)
-      (depthRule a (trailing before) (suc (length u)) (suc (length u)) (omega arith))
-  other-node (fork a b) u (true ∷ k) c before rest f g q hc hL e =
-      other-node b (true ∷ u) k c (entry (suc (length u)) (some (lastRecord a)) ∷ passFront (suc (length u)) a before) rest f (g .1) (q .1) (omega arith) (omega arith)
-      (depthRule b (suc (length u)) c (suc (length u)) (omega arith))
+      (at-leaf _ a (omega arith))
+  other-node (fork a b) u (true ∷ k) c before rest f g q hc hτ e =
+      other-node b (true ∷ u) k c (entry (suc (length u)) (some (lastRecord a)) ∷ passFront (suc (length u)) a before) rest f (g .1) (q .1)
+      (omega arith) (omega arith)
+      (at-leaf _ b (omega arith))
 
   -- The entry found in a whole trie.
-  pub other-trie : (o : Option Trie) (k : Key) → Given (NotHeld k) o → Given Pruned o → Given (KeysIn keyOf []) o
+  pub other-trie : (o : Option Trie) (k : Key) → Given (Reaches k) o → Given (NotHeld k) o → Given Pruned o → Given (KeysIn keyOf []) o
       → FoundOther keyOf k (trailing (search [] (positions 0 k) (writeAll o) .0)) (search [] (positions 0 k) (writeAll o) .1)
-  other-trie none k f g q = rw (stops-shallow k 0 0 none [] [] (omega arith)) tt
-  other-trie (some t) k f g q =
-      rw (search-node t k 0 0 [] [] (notHeld-reaches t k f) (omega arith))
-      (other-node t [] k 0 [] [] f g q (omega arith) (omega arith) (depthRule t 0 0 0 refl))
+  other-trie none k y f g q = rw (stops-shallow k 0 0 none [] [] (omega arith)) tt
+  other-trie (some t) k y f g q =
+      rw (search-node t k 0 0 [] [] y (omega arith))
+      (other-node t [] k 0 [] [] f g q (omega arith) (omega arith) (at-leaf _ t refl))
 
 -- The entry found in the entries of a herd, for a key that it does not hold.
 pub found-trieList : (keyOf : ℕ → ℕ) (w k : ℕ) (s : Herd) → k < 2 ^ w → Narrow w s → KeysOf keyOf s → lookup k s ≡ none
     → FoundOther (λ r. bits w (keyOf r)) (bits w k) (trailing (search [] (positions 0 (bits w k)) (trieList w s) .0)) (search [] (positions 0 (bits w k)) (trieList w s) .1)
 found-trieList keyOf w k s h q g e =
-    other-trie (λ r. bits w (keyOf r)) (trieOf w (items w s)) (bits w k)
+    other-trie (λ r. bits w (keyOf r)) (trieOf w (items w s)) (bits w k) (trieOf-reaches w (bits w k) (items w s) (bits-length w k) (items-lengths w s))
     (trieOf-notHeld w (bits w k) (items w s) (bits-length w k) (items-lengths w s) (items-noKey w k s h q (lookup-absent k s e))) (trieOf-pruned w (items w s))
     (trieOf-keys (λ r. bits w (keyOf r)) w [] (items w s) (items-keys w keyOf s g))

@@ -1,11 +1,10 @@
 -- The list of keys of a herd, and the trie's entries of it. Assumes nothing.
-use mathlib.Core.Path.{ap, _≡_, refl, _∙_, sym}
+use mathlib.Core.Path.{ap, _≡_, refl, _∙_}
 use mathlib.Core.Bool.{Bool, cond, true, false}
 use mathlib.Core.Option.{some, none, Option}
 use mathlib.Core.List.{[], _∷_, List}
 use Prim.Native.Nat.{ℕ, _<_, _^_}
 use native.Mathlib.Omega.{arith}
-use native.Mathlib.Nat.{mod-eq-of-lt}
 use lib.Dec.{ltb, eqb}
 use borrow.Author.Tests.{eqb-true, lt-ltb}
 use Rattle.leaf_list.specs.Keys.{bits}
@@ -16,12 +15,12 @@ use Rattle.leaf_list.specs.Trie.{trieList}
 use Rattle.leaf_list.specs.Search.{find}
 use Rattle.leaf_list.specs.Insertion.{insertion}
 use Rattle.leaf_list.specs.Deletion.{deletion}
-use Rattle.leaf_list.proofs.Bits.{bits-length, sameKey-bits, below-value, value-bits}
-use Rattle.leaf_list.proofs.TrieOf.{Lengths, NoKey, ItemKeys, Distinct}
+use Rattle.leaf_list.proofs.Bits.{bits-length, sameKey-bits, below-bits}
+use Rattle.leaf_list.proofs.Items.{Lengths, NoKey, ItemKeys, Least, Ordered, Distinct}
 use Rattle.leaf_list.proofs.TrieChange.{With, here, there}
 use Rattle.leaf_list.proofs.ItemLaws.{insertion-items, deletion-items, find-missing, find-held}
 use Rattle.leaf_list.proofs.HerdLaws.{above-absent, lookup-absent, narrow-remove, absent-remove, lookup-key}
-use Rattle.leaf_list.proofs.LiveRecords.{Least, Ordered, itemRecords, liveRecords-items}
+use Rattle.leaf_list.proofs.LiveRecords.{itemRecords, liveRecords-items}
 
 -- Each key has w bits.
 pub items-lengths : (w : ℕ) (s : Herd) → Lengths w (items w s)
@@ -53,7 +52,8 @@ pub items-remove : (w k r : ℕ) (s : Herd) → lookup k s ≡ some r → With (
 items-remove w k r [] e = absurd (let z : _≡_ {A = ℕ} 0 1 = cc in omega arith)
 items-remove w k r (x ∷ s) e = go (eqb k x.0) refl e (λ e′. items-remove w k r s e′)
   where
-    go : (t : Bool) → eqb k x.0 ≡ t → cond t (some x.1) (lookup k s) ≡ some r → (lookup k s ≡ some r → With (item (bits w k) r) (items w (remove k s)) (items w s))
+    go : (t : Bool) → eqb k x.0 ≡ t → cond t (some x.1) (lookup k s) ≡ some r
+        → (lookup k s ≡ some r → With (item (bits w k) r) (items w (remove k s)) (items w s))
         → With (item (bits w k) r) (items w (cond t s (x ∷ remove k s))) (items w (x ∷ s))
     go true q e ih =
         let z : x.1 ≡ r = cc in
@@ -63,11 +63,7 @@ items-remove w k r (x ∷ s) e = go (eqb k x.0) refl e (λ e′. items-remove w 
 -- A key below all of a herd's is so as bits.
 pub items-least : (w k : ℕ) (s : Herd) → k < 2 ^ w → Narrow w s → Above k s → Least (bits w k) (items w s)
 items-least w k [] h q a = tt
-items-least w k (x ∷ s) h q a = (
-  below-value (bits w k) (bits w x.0) (bits-length w k ∙ sym (bits-length w x.0))
-      ∙ rw (value-bits w k, value-bits w x.0, mod-eq-of-lt h, mod-eq-of-lt (q .0), lt-ltb k x.0 (a .0)),
-  items-least w k s h (q .1) (a .1),
-)
+items-least w k (x ∷ s) h q a = (below-bits w k x.0 h (q .0) ∙ lt-ltb k x.0 (a .0), items-least w k s h (q .1) (a .1))
 
 -- The keys of a sorted herd rise.
 pub items-ordered : (w : ℕ) (s : Herd) → Narrow w s → Sorted s → Ordered (items w s)
@@ -91,6 +87,7 @@ pub deletion-trieList : (w k r : ℕ) (s : Herd) → k < 2 ^ w → Narrow w s �
     → deletion (bits w k) (trieList w s) ≡ trieList w (remove k s)
 deletion-trieList w k r s h q o e =
     deletion-items w (bits w k) r (items w (remove k s)) (items w s) (items-remove w k r s e) (bits-length w k) (items-lengths w (remove k s))
+    (items-lengths w s)
     (items-noKey w k (remove k s) h (narrow-remove w k s q) (absent-remove k s o))
 
 -- Search finds what the herd holds.
@@ -99,9 +96,12 @@ pub find-trieList : (keyOf : ℕ → ℕ) (w k : ℕ) (s : Herd) → k < 2 ^ w �
 find-trieList keyOf w k s h q o g = go (lookup k s) refl
   where
     go : (a : Option ℕ) → lookup k s ≡ a → find (λ x. bits w (keyOf x)) (bits w k) (trieList w s) ≡ a
-    go none e = find-missing (λ x. bits w (keyOf x)) w (bits w k) (items w s) (bits-length w k) (items-lengths w s) (items-noKey w k s h q (lookup-absent k s e)) (items-keys w keyOf s g)
+    go none e =
+        find-missing (λ x. bits w (keyOf x)) w (bits w k) (items w s) (bits-length w k) (items-lengths w s)
+        (items-noKey w k s h q (lookup-absent k s e)) (items-keys w keyOf s g)
     go (some r) e =
-        find-held (λ x. bits w (keyOf x)) w (bits w k) r (items w (remove k s)) (items w s) (items-remove w k r s e) (bits-length w k) (items-lengths w (remove k s))
+        find-held (λ x. bits w (keyOf x)) w (bits w k) r (items w (remove k s)) (items w s) (items-remove w k r s e) (bits-length w k)
+        (items-lengths w (remove k s)) (items-lengths w s)
         (items-noKey w k (remove k s) h (narrow-remove w k s q) (absent-remove k s o)) (ap (bits w) (lookup-key keyOf k r s e g))
 
 -- The records of a herd's list are the herd's.

@@ -9,7 +9,37 @@ use native.Mathlib.Omega.{arith}
 use lib.Dec.{ltb, eqb}
 use lib.ListN.{length}
 use borrow.Author.Tests.{ltb-true, ltb-false, ne-eqb, eqb-true, eqb-false, le-ltb, lt-ltb, eq-eqb}
-use Rattle.leaf_list.specs.Herd.{Herd, Above, Absent, add, Sorted, lookup, KeysOf, Narrow, remove}
+use Rattle.leaf_list.specs.Herd.{Herd, add, remove, Above, Absent, Sorted, lookup, KeysOf, Narrow}
+
+-- A fact Q that is P of every key with its record: adding and removing keep it.
+module _ (P : ℕ × ℕ → Type 0) (Q : Herd → Type 0) (nothing : Q []) (one-more : (x : ℕ × ℕ) (s : Herd) → P x → Q s → Q (x ∷ s))
+    (parts : (x : ℕ × ℕ) (s : Herd) → Q (x ∷ s) → P x × Q s) where
+  pub each-add : (k r : ℕ) (s : Herd) → P (k, r) → Q s → Q (add k r s)
+  each-add k r [] h q = one-more (k, r) [] h q
+  each-add k r (x ∷ s) h q = go (ltb k x.0) (each-add k r s h (parts x s q .1))
+    where
+      go : (t : Bool) → Q (add k r s) → Q (cond t ((k, r) ∷ x ∷ s) (x ∷ add k r s))
+      go true i = one-more (k, r) (x ∷ s) h q
+      go false i = one-more x (add k r s) (parts x s q .0) i
+
+  pub each-remove : (k : ℕ) (s : Herd) → Q s → Q (remove k s)
+  each-remove k [] q = q
+  each-remove k (x ∷ s) q = go (eqb k x.0) (each-remove k s (parts x s q .1))
+    where
+      go : (t : Bool) → Q (remove k s) → Q (cond t s (x ∷ remove k s))
+      go true i = parts x s q .1
+      go false i = one-more x (remove k s) (parts x s q .0) i
+
+  -- What has it with a key added had it before, and so has the key.
+  pub each-add-inverse : (k r : ℕ) (s : Herd) → Q (add k r s) → P (k, r) × Q s
+  each-add-inverse k r [] q = parts (k, r) [] q
+  each-add-inverse k r (x ∷ s) q = go (ltb k x.0) q (λ i. each-add-inverse k r s i)
+    where
+      go : (t : Bool) → Q (cond t ((k, r) ∷ x ∷ s) (x ∷ add k r s)) → (Q (add k r s) → P (k, r) × Q s) → P (k, r) × Q (x ∷ s)
+      go true q f = parts (k, r) (x ∷ s) q
+      go false q f =
+          let rest = f (parts x (add k r s) q .1) in
+          (rest .0, one-more x s (parts x (add k r s) q .0) (rest .1))
 
 -- A key below all others is not held.
 pub above-absent : (k m : ℕ) (s : Herd) → k ≤ m → Above m s → Absent k s
@@ -23,12 +53,7 @@ above-trans k m (x ∷ s) h a = (omega (arith, a .0), above-trans k m s h (a .1)
 
 -- Adding a key above m.
 pub above-add : (m k r : ℕ) (s : Herd) → m < k → Above m s → Above m (add k r s)
-above-add m k r [] h a = (h, tt)
-above-add m k r (x ∷ s) h a = go (ltb k x.0) (above-add m k r s h (a .1))
-  where
-    go : (t : Bool) → Above m (add k r s) → Above m (cond t ((k, r) ∷ x ∷ s) (x ∷ add k r s))
-    go true i = (h, a)
-    go false i = (a .0, i)
+above-add m = each-add (λ x. m < x.0) (Above m) tt (λ x s p q. (p, q)) (λ x s h. h)
 
 -- A herd stays sorted when a key is added that it does not hold.
 pub sorted-add : (k r : ℕ) (s : Herd) → Sorted s → Absent k s → Sorted (add k r s)
@@ -65,39 +90,19 @@ length-add k r (x ∷ s) = go (ltb k x.0) (length-add k r s)
 
 -- keyOf has the keys after adding.
 pub keysOf-add : (keyOf : ℕ → ℕ) (k r : ℕ) (s : Herd) → keyOf r ≡ k → KeysOf keyOf s → KeysOf keyOf (add k r s)
-keysOf-add keyOf k r [] e h = (e, tt)
-keysOf-add keyOf k r (x ∷ s) e h = go (ltb k x.0) (keysOf-add keyOf k r s e (h .1))
-  where
-    go : (t : Bool) → KeysOf keyOf (add k r s) → KeysOf keyOf (cond t ((k, r) ∷ x ∷ s) (x ∷ add k r s))
-    go true i = (e, h)
-    go false i = (h .0, i)
+keysOf-add keyOf = each-add (λ x. keyOf x.1 ≡ x.0) (KeysOf keyOf) tt (λ x s p q. (p, q)) (λ x s h. h)
 
 -- Adding a key of w bits.
 pub narrow-add : (w k r : ℕ) (s : Herd) → k < 2 ^ w → Narrow w s → Narrow w (add k r s)
-narrow-add w k r [] h q = (h, tt)
-narrow-add w k r (x ∷ s) h q = go (ltb k x.0) (narrow-add w k r s h (q .1))
-  where
-    go : (t : Bool) → Narrow w (add k r s) → Narrow w (cond t ((k, r) ∷ x ∷ s) (x ∷ add k r s))
-    go true i = (h, q)
-    go false i = (q .0, i)
+narrow-add w = each-add (λ x. x.0 < 2 ^ w) (Narrow w) tt (λ x s p q. (p, q)) (λ x s h. h)
 
 -- No key becomes wider by removing one.
 pub narrow-remove : (w k : ℕ) (s : Herd) → Narrow w s → Narrow w (remove k s)
-narrow-remove w k [] h = tt
-narrow-remove w k (x ∷ s) h = go (eqb k x.0) (narrow-remove w k s (h .1))
-  where
-    go : (t : Bool) → Narrow w (remove k s) → Narrow w (cond t s (x ∷ remove k s))
-    go true i = h .1
-    go false i = (h .0, i)
+narrow-remove w = each-remove (λ x. x.0 < 2 ^ w) (Narrow w) tt (λ x s p q. (p, q)) (λ x s h. h)
 
 -- Removing a key leaves the others above m.
 pub above-remove : (m k : ℕ) (s : Herd) → Above m s → Above m (remove k s)
-above-remove m k [] a = tt
-above-remove m k (x ∷ s) a = go (eqb k x.0) (above-remove m k s (a .1))
-  where
-    go : (t : Bool) → Above m (remove k s) → Above m (cond t s (x ∷ remove k s))
-    go true i = a .1
-    go false i = (a .0, i)
+above-remove m = each-remove (λ x. m < x.0) (Above m) tt (λ x s p q. (p, q)) (λ x s h. h)
 
 -- A herd stays sorted when a key is removed.
 pub sorted-remove : (k : ℕ) (s : Herd) → Sorted s → Sorted (remove k s)
@@ -150,12 +155,7 @@ lookup-remove k m s o = go (eqb m k) refl
 
 -- keyOf has the keys after removing.
 pub keysOf-remove : (keyOf : ℕ → ℕ) (k : ℕ) (s : Herd) → KeysOf keyOf s → KeysOf keyOf (remove k s)
-keysOf-remove keyOf k [] h = tt
-keysOf-remove keyOf k (x ∷ s) h = go (eqb k x.0) (keysOf-remove keyOf k s (h .1))
-  where
-    go : (t : Bool) → KeysOf keyOf (remove k s) → KeysOf keyOf (cond t s (x ∷ remove k s))
-    go true i = h .1
-    go false i = (h .0, i)
+keysOf-remove keyOf = each-remove (λ x. keyOf x.1 ≡ x.0) (KeysOf keyOf) tt (λ x s p q. (p, q)) (λ x s h. h)
 
 -- One key less.
 pub length-remove : (k r : ℕ) (s : Herd) → lookup k s ≡ some r → suc (length (remove k s)) ≡ length s
@@ -182,7 +182,8 @@ lookup-key keyOf k r (x ∷ s) e h = go (eqb k x.0) refl e (λ e′. lookup-key 
 pub add-comm : (k r m q : ℕ) (s : Herd) → k ≢ m → add k r (add m q s) ≡ add m q (add k r s)
 add-comm k r m q [] h = go (ltb k m) refl
   where
-    go : (t : Bool) → ltb k m ≡ t → cond {A = Herd} t ((k, r) ∷ (m, q) ∷ []) ((m, q) ∷ (k, r) ∷ []) ≡ cond {A = Herd} (ltb m k) ((m, q) ∷ (k, r) ∷ []) ((k, r) ∷ (m, q) ∷ [])
+    go : (t : Bool) → ltb k m ≡ t
+        → cond {A = Herd} t ((k, r) ∷ (m, q) ∷ []) ((m, q) ∷ (k, r) ∷ []) ≡ cond {A = Herd} (ltb m k) ((m, q) ∷ (k, r) ∷ []) ((k, r) ∷ (m, q) ∷ [])
     go true e = rw (le-ltb m k (omega (arith, ltb-true k m e)))
     go false e = rw (lt-ltb m k (omega (arith, ltb-false k m e)))
 add-comm k r m q (x ∷ s) h = go (ltb k x.0) (ltb m x.0) (ltb k m) refl refl refl (add-comm k r m q s h)
@@ -223,12 +224,7 @@ remove-other k m q (x ∷ s) h o = go (ltb m x.0) (eqb k x.0) refl refl (remove-
 
 -- What stands above m with a key added.
 pub above-add-inverse : (m k r : ℕ) (s : Herd) → Above m (add k r s) → (m < k) × Above m s
-above-add-inverse m k r [] a = (a .0, tt)
-above-add-inverse m k r (x ∷ s) a = go (ltb k x.0) a (λ b. above-add-inverse m k r s b)
-  where
-    go : (t : Bool) → Above m (cond t ((k, r) ∷ x ∷ s) (x ∷ add k r s)) → (Above m (add k r s) → (m < k) × Above m s) → (m < k) × Above m (x ∷ s)
-    go true a f = (a .0, a .1)
-    go false a f = (f (a .1) .0, (a .0, f (a .1) .1))
+above-add-inverse m = each-add-inverse (λ x. m < x.0) (Above m) tt (λ x s p q. (p, q)) (λ x s h. h)
 
 -- A herd that is sorted with a key added did not hold it.
 pub sorted-add-inverse : (k r : ℕ) (s : Herd) → Sorted (add k r s) → Sorted s × Absent k s
@@ -244,18 +240,8 @@ sorted-add-inverse k r (x ∷ s) o = go (ltb k x.0) o (λ b. sorted-add-inverse 
 
 -- Adding another key does not make k held.
 pub absent-add : (k m r : ℕ) (s : Herd) → k ≢ m → Absent k s → Absent k (add m r s)
-absent-add k m r [] h a = (h, tt)
-absent-add k m r (x ∷ s) h a = go (ltb m x.0) (absent-add k m r s h (a .1))
-  where
-    go : (t : Bool) → Absent k (add m r s) → Absent k (cond t ((m, r) ∷ x ∷ s) (x ∷ add m r s))
-    go true i = (h, a)
-    go false i = (a .0, i)
+absent-add k = each-add (λ x. k ≢ x.0) (Absent k) tt (λ x s p q. (p, q)) (λ x s h. h)
 
 -- A key not held after adding is another, and was not held.
 pub absent-add-inverse : (k m r : ℕ) (s : Herd) → Absent k (add m r s) → (k ≢ m) × Absent k s
-absent-add-inverse k m r [] a = a
-absent-add-inverse k m r (x ∷ s) a = go (ltb m x.0) a (λ b. absent-add-inverse k m r s b)
-  where
-    go : (t : Bool) → Absent k (cond t ((m, r) ∷ x ∷ s) (x ∷ add m r s)) → (Absent k (add m r s) → (k ≢ m) × Absent k s) → (k ≢ m) × Absent k (x ∷ s)
-    go true a f = a
-    go false a f = (f (a .1) .0, (a .0, f (a .1) .1))
+absent-add-inverse k = each-add-inverse (λ x. k ≢ x.0) (Absent k) tt (λ x s p q. (p, q)) (λ x s h. h)

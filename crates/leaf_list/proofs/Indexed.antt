@@ -60,8 +60,11 @@ put-back (x ∷ xs) before ys = put-back xs (x ∷ before) ys
 
 -- Insertion by the index of the found entry.
 pub insertion-index : (keyOf : ℕ → Key) (k : Key) (r : ℕ) (es : List Entry)
-    → insertion keyOf k r es ≡ take (foundIndex (positions 0 k) es) es ++ insertAt keyOf k r (depthBefore 0 es (foundIndex (positions 0 k) es)) (drop (foundIndex (positions 0 k) es) es)
-insertion-index keyOf k r es = rw (search-index es [] (positions 0 k), trailing-index es [] (foundIndex (positions 0 k) es), put-back (take (foundIndex (positions 0 k) es) es) [] (insertAt keyOf k r (depthBefore 0 es (foundIndex (positions 0 k) es)) (drop (foundIndex (positions 0 k) es) es)))
+    → insertion keyOf k r es
+    ≡ take (foundIndex (positions 0 k) es) es ++ insertAt keyOf k r (depthBefore 0 es (foundIndex (positions 0 k) es)) (drop (foundIndex (positions 0 k) es) es)
+insertion-index keyOf k r es =
+    let n : ℕ = foundIndex (positions 0 k) es in
+    rw (search-index es [] (positions 0 k), trailing-index es [] n, put-back (take n es) [] (insertAt keyOf k r (depthBefore 0 es n) (drop n es)))
 
 -- An entry is found.
 pub remaining-some : (t : Trie) (k : Key) (l c : ℕ) (rest : List Entry) → Reaches k t → 0 < length (remaining l t k c rest)
@@ -85,5 +88,7 @@ search-some n (some t) k f h = rw (search-node t k 0 0 [] [] (sized-reaches t n 
 pub foundIndex-trieList : (w x : ℕ) (s : Herd) → foundIndex (positions 0 (bits w x)) (trieList w s) < length (trieList w s)
 foundIndex-trieList w x s =
     let i : ℕ = foundIndex (positions 0 (bits w x)) (trieList w s) in
-    let p : 0 < length (drop i (trieList w s)) = rw (search-index (trieList w s) [] (positions 0 (bits w x))) at (search-some w (trieOf w (items w s)) (bits w x) (trieOf-sized w (items w s) (items-lengths w s)) (bits-length w x)) in
+    let p : 0 < length (drop i (trieList w s)) =
+    rw (search-index (trieList w s) [] (positions 0 (bits w x))) at
+    (search-some w (trieOf w (items w s)) (bits w x) (trieOf-sized w (items w s) (items-lengths w s)) (bits-length w x)) in
     omega (arith, length-drop i (trieList w s))

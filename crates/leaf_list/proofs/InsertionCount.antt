@@ -25,7 +25,8 @@ one-dummy false u p b n r e h = omega arith
 pub dummies-count : (k : Key) (l m b : ℕ) (rest : List Entry) → length (dummies m b (positions l k) rest) ≤ length rest + (b - suc l)
 dummies-count [] l m b rest = one-dummy (ltb m (suc l)) (ltb (suc l) b) (suc l) b (length rest) rest refl (omega arith)
 dummies-count (false ∷ k) l m b rest = omega (arith, dummies-count k (suc l) m b rest)
-dummies-count (true ∷ k) l m b rest = one-dummy (ltb m (suc l)) (ltb (suc l) b) (suc l) b (length rest) (dummies m b (positions (suc l) k) rest) refl (dummies-count k (suc l) m b rest)
+dummies-count (true ∷ k) l m b rest =
+    one-dummy (ltb m (suc l)) (ltb (suc l) b) (suc l) b (length rest) (dummies m b (positions (suc l) k) rest) refl (dummies-count k (suc l) m b rest)
 
 -- Two entries.
 pub bothLeaves-length : (t : Bool) (b c r r′ : ℕ) (rest : List Entry) → length (bothLeaves t b c r r′ rest) ≡ suc (suc (length rest))
@@ -33,7 +34,8 @@ bothLeaves-length true b c r r′ rest = refl
 bothLeaves-length false b c r r′ rest = refl
 
 -- What stands for a live entry with another key.
-pub insertAt-count : (keyOf : ℕ → Key) (K : Key) (r τ d r′ : ℕ) (rest : List Entry) → Differ K (keyOf r′) → length (insertAt keyOf K r τ (entry d (some r′) ∷ rest)) ≤ suc (length rest) + length K
+pub insertAt-count : (keyOf : ℕ → Key) (K : Key) (r τ d r′ : ℕ) (rest : List Entry) → Differ K (keyOf r′)
+    → length (insertAt keyOf K r τ (entry d (some r′) ∷ rest)) ≤ suc (length rest) + length K
 insertAt-count keyOf K r τ d r′ rest a = go (ltb (firstDifference 0 K (keyOf r′)) (leafDepth τ d))
   where
     go : (t : Bool)
@@ -52,7 +54,8 @@ insertAt-count keyOf K r τ d r′ rest a = go (ltb (firstDifference 0 K (keyOf 
         )
 
 -- What stands for the found entry and those after it, in any case.
-pub insertAt-length : (keyOf : ℕ → Key) (K : Key) (r τ : ℕ) (es : List Entry) → FoundOther keyOf K τ es → length (insertAt keyOf K r τ es) ≤ length es + length K
+pub insertAt-length : (keyOf : ℕ → Key) (K : Key) (r τ : ℕ) (es : List Entry) → FoundOther keyOf K τ es
+    → length (insertAt keyOf K r τ es) ≤ length es + length K
 insertAt-length keyOf K r τ [] h = omega arith
 insertAt-length keyOf K r τ (entry d none ∷ rest) h = omega arith
 insertAt-length keyOf K r τ (entry d (some old) ∷ rest) h = insertAt-count keyOf K r τ d old rest (h .differs)
@@ -69,7 +72,8 @@ search-length (entry d p ∷ es) before (b ∷ bs) = go (ltb d b) (search-length
     place : Bool → Place
     place t = cond t (before, entry d p ∷ es) next
 
-    go : (t : Bool) → length (next .0) + length (next .1) ≡ suc (length before) + length es → length (place t .0) + length (place t .1) ≡ length before + suc (length es)
+    go : (t : Bool) → length (next .0) + length (next .1) ≡ suc (length before) + length es
+        → length (place t .0) + length (place t .1) ≡ length before + suc (length es)
     go true i = refl
     go false i = i ∙ omega arith
 

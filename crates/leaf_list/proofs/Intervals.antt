@@ -10,7 +10,7 @@ use Rattle.leaf_list.specs.Entries.{Entry, entry}
 use Rattle.leaf_list.specs.LeafList.{Item, recordBetween, item, recordFrom}
 use Rattle.leaf_list.specs.Trie.{zeroSide, oneSide}
 use Rattle.leaf_list.proofs.Bits.{below-zeroBits, setBit-length}
-use Rattle.leaf_list.proofs.TrieOf.{Lengths}
+use Rattle.leaf_list.proofs.Items.{Lengths}
 
 -- Between two bounds that begin with 0.
 pub between-zero : (lo hi : Key) (s : List Item) → recordBetween (false ∷ lo) (false ∷ hi) s ≡ recordBetween lo hi (zeroSide s)
@@ -67,20 +67,24 @@ stemDepth-length (x ∷ p) l = stemDepth-length p (suc l) ∙ omega arith
 -- The entries at the given stems, from the discriminator lo on; the depth c closes.
 abbrev pub entriesAt : ℕ → List Item → Key → List Key → ℕ → List Entry → List Entry
 entriesAt l s lo [] c rest = entry c (recordFrom lo s) ∷ rest
-entriesAt l s lo (p ∷ ps) c rest = entry (stemDepth l p) (recordBetween lo (setBit (suc (length p)) lo) s) ∷ entriesAt l s (setBit (suc (length p)) lo) ps c rest
+entriesAt l s lo (p ∷ ps) c rest =
+    entry (stemDepth l p) (recordBetween lo (setBit (suc (length p)) lo) s) ∷ entriesAt l s (setBit (suc (length p)) lo) ps c rest
 
 -- The entries at stems that begin with 0, where no key begins with 1.
 pub entriesAt-zero : (n l c : ℕ) (s : List Item) (lo : Key) (ps : List Key) (rest : List Entry) → Lengths (suc n) s → oneSide s ≡ []
     → entriesAt l s (false ∷ lo) (map (λ v. false ∷ v) ps) c rest ≡ entriesAt (suc l) (zeroSide s) lo ps c rest
 entriesAt-zero n l c s lo [] rest h e = rw (from-zero lo n s h e)
-entriesAt-zero n l c s lo (p ∷ ps) rest h e = rw (between-zero lo (setBit (suc (length p)) lo) s, entriesAt-zero n l c s (setBit (suc (length p)) lo) ps rest h e)
+entriesAt-zero n l c s lo (p ∷ ps) rest h e =
+    rw (between-zero lo (setBit (suc (length p)) lo) s, entriesAt-zero n l c s (setBit (suc (length p)) lo) ps rest h e)
 
 -- The entries at stems that begin with 0, then at the string 1 and on.
 pub entriesAt-middle : (n l c : ℕ) (s : List Item) (lo : Key) (ps qs : List Key) (rest : List Entry) → length lo ≡ n
-    → entriesAt l s (false ∷ lo) (map (λ v. false ∷ v) ps ++ ([] ∷ qs)) c rest ≡ entriesAt (suc l) (zeroSide s) lo ps (suc l) (entriesAt l s (true ∷ zeroBits n) qs c rest)
+    → entriesAt l s (false ∷ lo) (map (λ v. false ∷ v) ps ++ ([] ∷ qs)) c rest
+    ≡ entriesAt (suc l) (zeroSide s) lo ps (suc l) (entriesAt l s (true ∷ zeroBits n) qs c rest)
 entriesAt-middle n l c s lo [] qs rest h = rw (h, between-middle lo n s)
 entriesAt-middle n l c s lo (p ∷ ps) qs rest h =
-    rw (between-zero lo (setBit (suc (length p)) lo) s, entriesAt-middle n l c s (setBit (suc (length p)) lo) ps qs rest (setBit-length (suc (length p)) lo ∙ h))
+    rw
+    (between-zero lo (setBit (suc (length p)) lo) s, entriesAt-middle n l c s (setBit (suc (length p)) lo) ps qs rest (setBit-length (suc (length p)) lo ∙ h))
 
 -- The entries at stems that begin with 1.
 pub entriesAt-one : (n l c : ℕ) (s : List Item) (lo : Key) (ps : List Key) (rest : List Entry) → Lengths (suc n) s

@@ -4,14 +4,13 @@ use mathlib.Core.Bool.{false, true}
 use mathlib.Core.Option.{some}
 use mathlib.Core.List.{List, _∷_, []}
 use Prim.Native.Nat.{ℕ, zero, suc}
-use native.Mathlib.Omega.{arith}
-use lib.ListN.{length}
 use Rattle.leaf_list.specs.Keys.{Key, below}
 use Rattle.leaf_list.specs.LeafList.{Item, item}
 use Rattle.leaf_list.specs.Trie.{Trie, leaf, zero-only, one-only, fork, zeroSide, oneSide, trieOf, join}
 use Rattle.leaf_list.proofs.Tries.{Sized, Pruned, underZero-branching, underOne-branching}
-use Rattle.leaf_list.proofs.TrieOf.{trieOf-nil, trieOf-suc}
-use Rattle.leaf_list.proofs.LiveRecords.{Least, Ordered}
+use Rattle.leaf_list.proofs.Items.{Least, Ordered}
+use Rattle.leaf_list.proofs.TrieOf.{trieOf-suc, trieOf-nil}
+use Rattle.leaf_list.proofs.TrieChange.{trieOf-single}
 
 -- The keys of a trie with their records, in order, each after what f puts before it.
 abbrev pub leaves : (Key → Key) → Trie → List Item → List Item
@@ -26,7 +25,8 @@ zeroSide-zero (leaf k r) f rest = refl
 zeroSide-zero (zero-only t) f rest = zeroSide-zero t (λ k. f (false ∷ k)) rest
 zeroSide-zero (one-only t) f rest = zeroSide-zero t (λ k. f (true ∷ k)) rest
 zeroSide-zero (fork a b) f rest =
-    zeroSide-zero a (λ k. f (false ∷ k)) (leaves (λ k. false ∷ f (true ∷ k)) b rest) ∙ ap (leaves (λ k. f (false ∷ k)) a) (zeroSide-zero b (λ k. f (true ∷ k)) rest)
+    zeroSide-zero a (λ k. f (false ∷ k)) (leaves (λ k. false ∷ f (true ∷ k)) b rest)
+    ∙ ap (leaves (λ k. f (false ∷ k)) a) (zeroSide-zero b (λ k. f (true ∷ k)) rest)
 
 -- The 0-side of keys that begin with 1.
 pub zeroSide-one : (t : Trie) (f : Key → Key) (rest : List Item) → zeroSide (leaves (λ k. true ∷ f k) t rest) ≡ zeroSide rest
@@ -49,13 +49,6 @@ oneSide-zero (leaf k r) f rest = refl
 oneSide-zero (zero-only t) f rest = oneSide-zero t (λ k. f (false ∷ k)) rest
 oneSide-zero (one-only t) f rest = oneSide-zero t (λ k. f (true ∷ k)) rest
 oneSide-zero (fork a b) f rest = oneSide-zero a (λ k. f (false ∷ k)) (leaves (λ k. false ∷ f (true ∷ k)) b rest) ∙ oneSide-zero b (λ k. f (true ∷ k)) rest
-
--- The trie of one key is a leaf.
-pub trieOf-single : (n : ℕ) (k : Key) (r : ℕ) → length k ≡ n → trieOf n (item k r ∷ []) ≡ some (leaf k r)
-trieOf-single zero k r h = refl
-trieOf-single (suc n) [] r h = absurd (omega arith)
-trieOf-single (suc n) (false ∷ k) r h = rw (trieOf-single n k r (omega arith), trieOf-nil n)
-trieOf-single (suc n) (true ∷ k) r h = rw (trieOf-single n k r (omega arith), trieOf-nil n)
 
 -- A pruned trie is the trie of its keys.
 pub trieOf-leaves : (t : Trie) (n : ℕ) → Sized n t → Pruned t → trieOf n (leaves (λ k. k) t []) ≡ some t
@@ -81,10 +74,12 @@ least-leaves (leaf k r) f k₀ rest h q = (h k, q)
 least-leaves (zero-only t) f k₀ rest h q = least-leaves t (λ k. f (false ∷ k)) k₀ rest (λ k. h (false ∷ k)) q
 least-leaves (one-only t) f k₀ rest h q = least-leaves t (λ k. f (true ∷ k)) k₀ rest (λ k. h (true ∷ k)) q
 least-leaves (fork a b) f k₀ rest h q =
-    least-leaves a (λ k. f (false ∷ k)) k₀ (leaves (λ k. f (true ∷ k)) b rest) (λ k. h (false ∷ k)) (least-leaves b (λ k. f (true ∷ k)) k₀ rest (λ k. h (true ∷ k)) q)
+    least-leaves a (λ k. f (false ∷ k)) k₀ (leaves (λ k. f (true ∷ k)) b rest) (λ k. h (false ∷ k))
+    (least-leaves b (λ k. f (true ∷ k)) k₀ rest (λ k. h (true ∷ k)) q)
 
 -- The keys of a trie rise.
-pub ordered-leaves : (t : Trie) (f : Key → Key) (rest : List Item) → ((k k′ : Key) → below (f k) (f k′) ≡ below k k′) → Ordered rest → ((k : Key) → Least (f k) rest)
+pub ordered-leaves : (t : Trie) (f : Key → Key) (rest : List Item) → ((k k′ : Key) → below (f k) (f k′) ≡ below k k′) → Ordered rest
+    → ((k : Key) → Least (f k) rest)
     → Ordered (leaves f t rest)
 ordered-leaves (leaf k r) f rest h o q = (q k, o)
 ordered-leaves (zero-only t) f rest h o q = ordered-leaves t (λ k. f (false ∷ k)) rest (λ k k′. h (false ∷ k) (false ∷ k′)) o (λ k. q (false ∷ k))

@@ -1,9 +1,11 @@
+pub mod Lists
 pub mod Bits
 pub mod Paths
 pub mod Tries
 pub mod Places
 pub mod TrieInsertion
 pub mod TrieDeletion
+pub mod Items
 pub mod TrieOf
 pub mod TrieChange
 pub mod ItemLaws
@@ -13,6 +15,7 @@ pub mod HerdItems
 pub mod FoundEntry
 pub mod InsertionCount
 pub mod Depths
+pub mod InsertionPlace
 pub mod Discriminators
 pub mod Positions
 pub mod Indexed

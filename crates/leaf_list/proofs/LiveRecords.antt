@@ -1,15 +1,15 @@
 -- The live entries of a written trie, left to right, have the records in key order. Assumes nothing.
 use mathlib.Core.Path.{_≡_, refl, _∙_, ap, sym}
-use mathlib.Core.Bool.{true, false, true≢false}
+use mathlib.Core.Bool.{false, true, true≢false}
 use mathlib.Core.Option.{Option, none, some}
 use mathlib.Core.List.{List, _∷_, []}
 use Prim.Native.Nat.{ℕ, suc, zero}
 use native.Mathlib.Omega.{arith}
-use Rattle.leaf_list.specs.Keys.{Key, below}
 use Rattle.leaf_list.specs.Entries.{Entry, liveRecords}
 use Rattle.leaf_list.specs.LeafList.{Item, item}
-use Rattle.leaf_list.specs.Trie.{Trie, leaf, zero-only, one-only, fork, write, join, oneSide, zeroSide, trieOf, writeAll}
-use Rattle.leaf_list.proofs.TrieOf.{Lengths, trieOf-suc, lengths-zero, lengths-one}
+use Rattle.leaf_list.specs.Trie.{Trie, leaf, zero-only, one-only, fork, write, join, zeroSide, oneSide, trieOf, writeAll}
+use Rattle.leaf_list.proofs.Items.{Lengths, Ordered, least-one, lengths-zero, ordered-zero, lengths-one, ordered-one}
+use Rattle.leaf_list.proofs.TrieOf.{trieOf-suc}
 
 -- The records of a trie in order, before the given ones.
 abbrev pub trieRecords : Trie → List ℕ → List ℕ
@@ -48,51 +48,14 @@ abbrev pub itemRecords : List Item → List ℕ → List ℕ
 itemRecords [] rest = rest
 itemRecords (item k r ∷ s) rest = r ∷ itemRecords s rest
 
--- k is below every key.
-abbrev pub Least : Key → List Item → Type 0
-Least k [] = Unit {0}
-Least k (item k′ r ∷ s) = (below k k′ ≡ true) × Least k s
-
--- The keys rise.
-abbrev pub Ordered : List Item → Type 0
-Ordered [] = Unit {0}
-Ordered (item k r ∷ s) = Least k s × Ordered s
-
--- After a key that goes on with 1 come only such.
-pub least-one : (k : Key) (s : List Item) → Least (true ∷ k) s → Least k (oneSide s) × (zeroSide s ≡ [])
-least-one k [] h = (tt, refl)
-least-one k (item [] r ∷ s) h = least-one k s (h .1)
-least-one k (item (false ∷ k′) r ∷ s) h = absurd (true≢false (sym (h .0)))
-least-one k (item (true ∷ k′) r ∷ s) h = ((h .0, (least-one k s (h .1)) .0), (least-one k s (h .1)) .1)
-
--- A key below all others is so on its side.
-pub least-zero : (k : Key) (s : List Item) → Least (false ∷ k) s → Least k (zeroSide s)
-least-zero k [] h = tt
-least-zero k (item [] r ∷ s) h = least-zero k s (h .1)
-least-zero k (item (false ∷ k′) r ∷ s) h = (h .0, least-zero k s (h .1))
-least-zero k (item (true ∷ k′) r ∷ s) h = least-zero k s (h .1)
-
--- The 0-side of rising keys rises.
-pub ordered-zero : (s : List Item) → Ordered s → Ordered (zeroSide s)
-ordered-zero [] h = tt
-ordered-zero (item [] r ∷ s) h = ordered-zero s (h .1)
-ordered-zero (item (false ∷ k) r ∷ s) h = (least-zero k s (h .0), ordered-zero s (h .1))
-ordered-zero (item (true ∷ k) r ∷ s) h = ordered-zero s (h .1)
-
--- So does the 1-side.
-pub ordered-one : (s : List Item) → Ordered s → Ordered (oneSide s)
-ordered-one [] h = tt
-ordered-one (item [] r ∷ s) h = ordered-one s (h .1)
-ordered-one (item (false ∷ k) r ∷ s) h = ordered-one s (h .1)
-ordered-one (item (true ∷ k) r ∷ s) h = ((least-one k s (h .0)) .0, ordered-one s (h .1))
-
 -- The records of rising keys: the 0-side's, then the 1-side's.
-pub records-by-sides : (n : ℕ) (s : List Item) (rest : List ℕ) → Lengths (suc n) s → Ordered s → itemRecords s rest ≡ itemRecords (zeroSide s) (itemRecords (oneSide s) rest)
+pub records-by-sides : (n : ℕ) (s : List Item) (rest : List ℕ) → Lengths (suc n) s → Ordered s
+    → itemRecords s rest ≡ itemRecords (zeroSide s) (itemRecords (oneSide s) rest)
 records-by-sides n [] rest h o = refl
 records-by-sides n (item [] r ∷ s) rest h o = absurd (omega (arith, h .0))
 records-by-sides n (item (false ∷ k) r ∷ s) rest h o = ap (λ (x : List ℕ). r ∷ x) (records-by-sides n s rest (h .1) (o .1))
 records-by-sides n (item (true ∷ k) r ∷ s) rest h o =
-    let e : zeroSide s ≡ [] = (least-one k s (o .0)) .1 in
+    let e : zeroSide s ≡ [] = least-one k s (o .0) in
     rw e (ap (λ (x : List ℕ). r ∷ x) (records-by-sides n s rest (h .1) (o .1) ∙ rw e))
 
 -- The records of the trie of rising keys are theirs.

@@ -5,25 +5,25 @@ use Prim.Native.Nat.{ℕ, _<_, _≤_, suc}
 use native.Mathlib.Omega.{arith}
 use Rattle.leaf_list.specs.Keys.{Key}
 use Rattle.leaf_list.specs.Search.{positions}
+use Rattle.leaf_list.proofs.Lists.{All}
 
 -- All positions are past d.
 abbrev pub Beyond : ℕ → List ℕ → Type 0
-Beyond d [] = Unit {0}
-Beyond d (b ∷ bs) = (d < b) × Beyond d bs
+Beyond d = All (λ b. d < b)
 
 -- The positions rise.
 abbrev pub Rising : List ℕ → Type 0
 Rising [] = Unit {0}
 Rising (b ∷ bs) = Beyond b bs × Rising bs
 
--- Past more is past less.
-pub beyond-less : (d b : ℕ) (bs : List ℕ) → d ≤ b → Beyond b bs → Beyond d bs
-beyond-less d b [] h a = tt
-beyond-less d b (x ∷ bs) h a = (omega (arith, a .0), beyond-less d b bs h (a .1))
+-- The positions of a key are past the l bits that went before.
+pub positions-beyond : (c l : ℕ) (k : Key) → c ≤ l → Beyond c (positions l k)
+positions-beyond c l [] h = (omega arith, tt)
+positions-beyond c l (false ∷ k) h = positions-beyond c (suc l) k (omega arith)
+positions-beyond c l (true ∷ k) h = (omega arith, positions-beyond c (suc l) k (omega arith))
 
--- The positions of a key rise, and are past the bits that went before.
-pub positions-rise : (k : Key) (l : ℕ) → Rising (positions l k) × Beyond l (positions l k)
-positions-rise [] l = ((tt, tt), (omega arith, tt))
-positions-rise (false ∷ k) l = ((positions-rise k (suc l)) .0, beyond-less l (suc l) (positions (suc l) k) (omega arith) ((positions-rise k (suc l)) .1))
-positions-rise (true ∷ k) l =
-    (((positions-rise k (suc l)) .1, (positions-rise k (suc l)) .0), (omega arith, beyond-less l (suc l) (positions (suc l) k) (omega arith) ((positions-rise k (suc l)) .1)))
+-- They rise.
+pub positions-rise : (l : ℕ) (k : Key) → Rising (positions l k)
+positions-rise l [] = (tt, tt)
+positions-rise l (false ∷ k) = positions-rise (suc l) k
+positions-rise l (true ∷ k) = (positions-beyond (suc l) (suc l) k (omega arith), positions-rise (suc l) k)

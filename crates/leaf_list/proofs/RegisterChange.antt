@@ -20,16 +20,24 @@ pub absent-from : (keyOf : ℕ → ℕ) (k i : ℕ) (us : List ℕ) → ((j : �
 absent-from keyOf k i [] f = tt
 absent-from keyOf k i (u ∷ us) f = go (eqb u 1) refl (absent-from keyOf k (suc i) us (λ j e q. f (suc j) e (q ∙ ap keyOf (omega arith))))
   where
-    go : (t : Bool) → eqb u 1 ≡ t → Absent k (herdFrom keyOf (suc i) us) → Absent k (cond t (add (keyOf i) i (herdFrom keyOf (suc i) us)) (herdFrom keyOf (suc i) us))
+    go : (t : Bool) → eqb u 1 ≡ t → Absent k (herdFrom keyOf (suc i) us)
+        → Absent k (cond t (add (keyOf i) i (herdFrom keyOf (suc i) us)) (herdFrom keyOf (suc i) us))
     go true e h = absent-add k (keyOf i) i (herdFrom keyOf (suc i) us) (λ q. f 0 e (q ∙ ap keyOf (sym (add-zero i)))) h
     go false e h = h
 
 -- Records in use with different keys make a sorted herd.
-pub sorted-from : (keyOf : ℕ → ℕ) (i : ℕ) (us : List ℕ) → ((j l : ℕ) → inUse us j ≡ true → inUse us l ≡ true → keyOf (i + j) ≡ keyOf (i + l) → j ≡ l) → Sorted (herdFrom keyOf i us)
+pub sorted-from : (keyOf : ℕ → ℕ) (i : ℕ) (us : List ℕ) → ((j l : ℕ) → inUse us j ≡ true → inUse us l ≡ true → keyOf (i + j) ≡ keyOf (i + l) → j ≡ l)
+    → Sorted (herdFrom keyOf i us)
 sorted-from keyOf i [] f = tt
-sorted-from keyOf i (u ∷ us) f = go (eqb u 1) refl (sorted-from keyOf (suc i) us (λ j l p q e. let z : suc j ≡ suc l = f (suc j) (suc l) p q (ap keyOf (omega arith) ∙ e ∙ ap keyOf (omega arith)) in omega arith))
+sorted-from keyOf i (u ∷ us) f = go (eqb u 1) refl (sorted-from keyOf (suc i) us later)
   where
-    go : (t : Bool) → eqb u 1 ≡ t → Sorted (herdFrom keyOf (suc i) us) → Sorted (cond t (add (keyOf i) i (herdFrom keyOf (suc i) us)) (herdFrom keyOf (suc i) us))
+    later : (j l : ℕ) → inUse us j ≡ true → inUse us l ≡ true → keyOf (suc i + j) ≡ keyOf (suc i + l) → j ≡ l
+    later j l p q e =
+        let z : suc j ≡ suc l = f (suc j) (suc l) p q (ap keyOf (omega arith) ∙ e ∙ ap keyOf (omega arith)) in
+        omega arith
+
+    go : (t : Bool) → eqb u 1 ≡ t → Sorted (herdFrom keyOf (suc i) us)
+        → Sorted (cond t (add (keyOf i) i (herdFrom keyOf (suc i) us)) (herdFrom keyOf (suc i) us))
     go true e h =
         sorted-add (keyOf i) i (herdFrom keyOf (suc i) us) h
         (absent-from keyOf (keyOf i) (suc i) us (λ j p q. let z : 0 ≡ suc j = f 0 (suc j) e p (ap keyOf (add-zero i) ∙ q ∙ ap keyOf (omega arith)) in omega arith))
@@ -53,53 +61,58 @@ herdOf-sorted keys used = (to, fro)
     fro f = sorted-from (keyAt keys) 0 used (λ j l p q e. f j l p q (ap (keyAt keys) (sym (zero-add j)) ∙ e ∙ ap (keyAt keys) (zero-add l)))
 
 -- The herd depends on the keys from i on only.
-pub herdFrom-same : (keyOf reg′ : ℕ → ℕ) (i : ℕ) (us : List ℕ) → ((j : ℕ) → reg′ (i + j) ≡ keyOf (i + j)) → herdFrom reg′ i us ≡ herdFrom keyOf i us
-herdFrom-same keyOf reg′ i [] f = refl
-herdFrom-same keyOf reg′ i (u ∷ us) f =
-    let z : reg′ i ≡ keyOf i = ap reg′ (sym (add-zero i)) ∙ f 0 ∙ ap keyOf (add-zero i) in
-    rw (herdFrom-same keyOf reg′ (suc i) us (λ j. ap reg′ (omega arith) ∙ f (suc j) ∙ ap keyOf (omega arith)), z)
+pub herdFrom-same : (keyOf keyOf′ : ℕ → ℕ) (i : ℕ) (us : List ℕ) → ((j : ℕ) → keyOf′ (i + j) ≡ keyOf (i + j)) → herdFrom keyOf′ i us ≡ herdFrom keyOf i us
+herdFrom-same keyOf keyOf′ i [] f = refl
+herdFrom-same keyOf keyOf′ i (u ∷ us) f =
+    let z : keyOf′ i ≡ keyOf i = ap keyOf′ (sym (add-zero i)) ∙ f 0 ∙ ap keyOf (add-zero i) in
+    rw (herdFrom-same keyOf keyOf′ (suc i) us (λ j. ap keyOf′ (omega arith) ∙ f (suc j) ∙ ap keyOf (omega arith)), z)
 
 -- One record set.
-pub herdFrom-set : (keyOf reg′ : ℕ → ℕ) (us : List ℕ) (i j : ℕ) → j < length us → inUse us j ≡ false → ((x : ℕ) → x ≢ i + j → reg′ x ≡ keyOf x) → Absent (reg′ (i + j)) (herdFrom keyOf i us)
-    → herdFrom reg′ i (set us j 1) ≡ add (reg′ (i + j)) (i + j) (herdFrom keyOf i us)
-herdFrom-set keyOf reg′ [] i j h e f a = absurd (omega arith)
-herdFrom-set keyOf reg′ (u ∷ us) i zero h e f a = rw (add-zero i, e, herdFrom-same keyOf reg′ (suc i) us (λ j. f (suc i + j) (omega arith)))
-herdFrom-set keyOf reg′ (u ∷ us) i (suc j) h e f a = go (eqb u 1) a (λ b. herdFrom-set keyOf reg′ us (suc i) j (omega arith) e (λ x n. f x (λ q. n (q ∙ sym z))) (subst (λ (x : ℕ). Absent (reg′ x) (herdFrom keyOf (suc i) us)) (sym z) b))
+pub herdFrom-set : (keyOf keyOf′ : ℕ → ℕ) (us : List ℕ) (i j : ℕ) → j < length us → inUse us j ≡ false → ((x : ℕ) → x ≢ i + j → keyOf′ x ≡ keyOf x)
+    → Absent (keyOf′ (i + j)) (herdFrom keyOf i us)
+    → herdFrom keyOf′ i (set us j 1) ≡ add (keyOf′ (i + j)) (i + j) (herdFrom keyOf i us)
+herdFrom-set keyOf keyOf′ [] i j h e f a = absurd (omega arith)
+herdFrom-set keyOf keyOf′ (u ∷ us) i zero h e f a = rw (add-zero i, e, herdFrom-same keyOf keyOf′ (suc i) us (λ j. f (suc i + j) (omega arith)))
+herdFrom-set keyOf keyOf′ (u ∷ us) i (suc j) h e f a =
+    go (eqb u 1) a
+    (λ b. herdFrom-set keyOf keyOf′ us (suc i) j (omega arith) e (λ x n. f x (λ q. n (q ∙ sym z)))
+    (subst (λ (x : ℕ). Absent (keyOf′ x) (herdFrom keyOf (suc i) us)) (sym z) b))
   where
     z : suc i + j ≡ i + suc j
     z = omega arith
 
-    y : reg′ i ≡ keyOf i
+    y : keyOf′ i ≡ keyOf i
     y = f i (omega arith)
 
-    go : (t : Bool) → Absent (reg′ (i + suc j)) (cond t (add (keyOf i) i (herdFrom keyOf (suc i) us)) (herdFrom keyOf (suc i) us))
-        → (Absent (reg′ (i + suc j)) (herdFrom keyOf (suc i) us) → herdFrom reg′ (suc i) (set us j 1) ≡ add (reg′ (suc i + j)) (suc i + j) (herdFrom keyOf (suc i) us))
-        → cond t (add (reg′ i) i (herdFrom reg′ (suc i) (set us j 1))) (herdFrom reg′ (suc i) (set us j 1))
-        ≡ add (reg′ (i + suc j)) (i + suc j) (cond t (add (keyOf i) i (herdFrom keyOf (suc i) us)) (herdFrom keyOf (suc i) us))
+    go : (t : Bool) → Absent (keyOf′ (i + suc j)) (cond t (add (keyOf i) i (herdFrom keyOf (suc i) us)) (herdFrom keyOf (suc i) us))
+        → (Absent (keyOf′ (i + suc j)) (herdFrom keyOf (suc i) us) → herdFrom keyOf′ (suc i) (set us j 1) ≡ add (keyOf′ (suc i + j)) (suc i + j) (herdFrom keyOf (suc i) us))
+        → cond t (add (keyOf′ i) i (herdFrom keyOf′ (suc i) (set us j 1))) (herdFrom keyOf′ (suc i) (set us j 1))
+        ≡ add (keyOf′ (i + suc j)) (i + suc j) (cond t (add (keyOf i) i (herdFrom keyOf (suc i) us)) (herdFrom keyOf (suc i) us))
     go true a ih =
-        let b = absent-add-inverse (reg′ (i + suc j)) (keyOf i) i (herdFrom keyOf (suc i) us) a in
-        rw (y, ih (b .1), z) (add-comm (keyOf i) i (reg′ (i + suc j)) (i + suc j) (herdFrom keyOf (suc i) us) (λ q. b .0 (sym q)))
+        let b = absent-add-inverse (keyOf′ (i + suc j)) (keyOf i) i (herdFrom keyOf (suc i) us) a in
+        rw (y, ih (b .1), z) (add-comm (keyOf i) i (keyOf′ (i + suc j)) (i + suc j) (herdFrom keyOf (suc i) us) (λ q. b .0 (sym q)))
     go false a ih = rw (ih a, z)
 
 -- One record cleared.
-pub herdFrom-clear : (keyOf reg′ : ℕ → ℕ) (us : List ℕ) (i j : ℕ) → inUse us j ≡ true → ((x : ℕ) → x ≢ i + j → reg′ x ≡ keyOf x) → Sorted (herdFrom keyOf i us)
-    → herdFrom reg′ i (set us j 0) ≡ remove (keyOf (i + j)) (herdFrom keyOf i us)
-herdFrom-clear keyOf reg′ [] i j e f o = refl
-herdFrom-clear keyOf reg′ (u ∷ us) i zero e f o =
-    let o′ : Sorted (add (keyOf i) i (herdFrom keyOf (suc i) us)) = subst (λ (b : Bool). Sorted (cond b (add (keyOf i) i (herdFrom keyOf (suc i) us)) (herdFrom keyOf (suc i) us))) e o in
-    rw (add-zero i, e, herdFrom-same keyOf reg′ (suc i) us (λ j. f (suc i + j) (omega arith)))
+pub herdFrom-clear : (keyOf keyOf′ : ℕ → ℕ) (us : List ℕ) (i j : ℕ) → inUse us j ≡ true → ((x : ℕ) → x ≢ i + j → keyOf′ x ≡ keyOf x) → Sorted (herdFrom keyOf i us)
+    → herdFrom keyOf′ i (set us j 0) ≡ remove (keyOf (i + j)) (herdFrom keyOf i us)
+herdFrom-clear keyOf keyOf′ [] i j e f o = refl
+herdFrom-clear keyOf keyOf′ (u ∷ us) i zero e f o =
+    let o′ : Sorted (add (keyOf i) i (herdFrom keyOf (suc i) us)) =
+    subst (λ (b : Bool). Sorted (cond b (add (keyOf i) i (herdFrom keyOf (suc i) us)) (herdFrom keyOf (suc i) us))) e o in
+    rw (add-zero i, e, herdFrom-same keyOf keyOf′ (suc i) us (λ j. f (suc i + j) (omega arith)))
     (sym (remove-add (keyOf i) i (herdFrom keyOf (suc i) us) (sorted-add-inverse (keyOf i) i (herdFrom keyOf (suc i) us) o′ .1)))
-herdFrom-clear keyOf reg′ (u ∷ us) i (suc j) e f o = go (eqb u 1) o (λ b. herdFrom-clear keyOf reg′ us (suc i) j e (λ x n. f x (λ q. n (q ∙ sym z))) b)
+herdFrom-clear keyOf keyOf′ (u ∷ us) i (suc j) e f o = go (eqb u 1) o (λ b. herdFrom-clear keyOf keyOf′ us (suc i) j e (λ x n. f x (λ q. n (q ∙ sym z))) b)
   where
     z : suc i + j ≡ i + suc j
     z = omega arith
 
-    y : reg′ i ≡ keyOf i
+    y : keyOf′ i ≡ keyOf i
     y = f i (omega arith)
 
     go : (t : Bool) → Sorted (cond t (add (keyOf i) i (herdFrom keyOf (suc i) us)) (herdFrom keyOf (suc i) us))
-        → (Sorted (herdFrom keyOf (suc i) us) → herdFrom reg′ (suc i) (set us j 0) ≡ remove (keyOf (suc i + j)) (herdFrom keyOf (suc i) us))
-        → cond t (add (reg′ i) i (herdFrom reg′ (suc i) (set us j 0))) (herdFrom reg′ (suc i) (set us j 0))
+        → (Sorted (herdFrom keyOf (suc i) us) → herdFrom keyOf′ (suc i) (set us j 0) ≡ remove (keyOf (suc i + j)) (herdFrom keyOf (suc i) us))
+        → cond t (add (keyOf′ i) i (herdFrom keyOf′ (suc i) (set us j 0))) (herdFrom keyOf′ (suc i) (set us j 0))
         ≡ remove (keyOf (i + suc j)) (cond t (add (keyOf i) i (herdFrom keyOf (suc i) us)) (herdFrom keyOf (suc i) us))
     go true o ih =
         let b = sorted-add-inverse (keyOf i) i (herdFrom keyOf (suc i) us) o in

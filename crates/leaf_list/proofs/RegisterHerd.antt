@@ -12,7 +12,7 @@ use lib.ListN.{length}
 use borrow.Author.Tests.{ltb-true, ltb-false, eq-eqb, ne-eqb, eqb-true}
 use Rattle.leaf_list.specs.Herd.{Herd, KeysOf, recordsOf, add, Absent, Sorted, lookup}
 use Rattle.leaf_list.specs.Register.{herdFrom, countInUse, inUse, keyAt, herdOf}
-use Rattle.leaf_list.proofs.HerdLaws.{length-add, keysOf-add, above-absent}
+use Rattle.leaf_list.proofs.HerdLaws.{each-add, length-add, keysOf-add, above-absent}
 use Rattle.leaf_list.proofs.FittingHerds.{AllInUse}
 
 -- The herd holds the key k with the record r.
@@ -64,12 +64,7 @@ holds-kept k r j q (x ∷ s) i = go (ltb k x.0) i (λ i′. holds-kept k r j q s
 
 -- Adding a key that is no less.
 pub atLeast-add : (m k r : ℕ) (s : Herd) → m ≤ k → AtLeast m s → AtLeast m (add k r s)
-atLeast-add m k r [] h a = (h, tt)
-atLeast-add m k r (x ∷ s) h a = go (ltb k x.0) (atLeast-add m k r s h (a .1))
-  where
-    go : (t : Bool) → AtLeast m (add k r s) → AtLeast m (cond t ((k, r) ∷ x ∷ s) (x ∷ add k r s))
-    go true i = (h, a)
-    go false i = (a .0, i)
+atLeast-add m = each-add (λ x. m ≤ x.0) (AtLeast m) tt (λ x s p q. (p, q)) (λ x s h. h)
 
 -- What is no less than m is no less than less.
 pub atLeast-trans : (k m : ℕ) (s : Herd) → k ≤ m → AtLeast m s → AtLeast k s
@@ -89,12 +84,7 @@ weaklySorted-add k r (x ∷ s) o = go (ltb k x.0) refl (weaklySorted-add k r s (
 
 -- The records are in use after adding one in use.
 pub inUse-add : (used : ℕ → Bool) (k r : ℕ) (s : Herd) → used r ≡ true → AllInUse used (recordsOf s) → AllInUse used (recordsOf (add k r s))
-inUse-add used k r [] e h = (e, tt)
-inUse-add used k r (x ∷ s) e h = go (ltb k x.0) (inUse-add used k r s e (h .1))
-  where
-    go : (t : Bool) → AllInUse used (recordsOf (add k r s)) → AllInUse used (recordsOf (cond t ((k, r) ∷ x ∷ s) (x ∷ add k r s)))
-    go true i = (e, h)
-    go false i = (h .0, i)
+inUse-add used = each-add (λ x. used x.1 ≡ true) (λ s. AllInUse used (recordsOf s)) tt (λ x s p q. (p, q)) (λ x s h. h)
 
 -- As many keys as records in use.
 pub length-herdFrom : (keyOf : ℕ → ℕ) (i : ℕ) (us : List ℕ) → length (herdFrom keyOf i us) ≡ countInUse us
@@ -106,32 +96,15 @@ length-herdFrom keyOf i (u ∷ us) = go (eqb u 1) (length-herdFrom keyOf (suc i)
     go true e = length-add (keyOf i) i (herdFrom keyOf (suc i) us) ∙ ap suc e
     go false e = e
 
--- The herd of a register stands in order.
-pub weaklySorted-from : (keyOf : ℕ → ℕ) (i : ℕ) (us : List ℕ) → WeaklySorted (herdFrom keyOf i us)
-weaklySorted-from keyOf i [] = tt
-weaklySorted-from keyOf i (u ∷ us) = go (eqb u 1) (weaklySorted-from keyOf (suc i) us)
+-- A fact Q of the herd of no record, kept by adding a record in use, is one of the herd of a register.
+pub herdFrom-keeps : (keyOf : ℕ → ℕ) (used : ℕ → Bool) (Q : Herd → Type 0) → Q [] → ((r : ℕ) (s : Herd) → used r ≡ true → Q s → Q (add (keyOf r) r s))
+    → (i : ℕ) (us : List ℕ) → ((j : ℕ) → used (i + j) ≡ inUse us j) → Q (herdFrom keyOf i us)
+herdFrom-keeps keyOf used Q nothing one-more i [] f = nothing
+herdFrom-keeps keyOf used Q nothing one-more i (u ∷ us) f =
+    go (eqb u 1) refl (herdFrom-keeps keyOf used Q nothing one-more (suc i) us (λ j. ap used (omega arith) ∙ f (suc j)))
   where
-    go : (t : Bool) → WeaklySorted (herdFrom keyOf (suc i) us) → WeaklySorted (cond t (add (keyOf i) i (herdFrom keyOf (suc i) us)) (herdFrom keyOf (suc i) us))
-    go true h = weaklySorted-add (keyOf i) i (herdFrom keyOf (suc i) us) h
-    go false h = h
-
--- Its records have their keys.
-pub keysOf-from : (keyOf : ℕ → ℕ) (i : ℕ) (us : List ℕ) → KeysOf keyOf (herdFrom keyOf i us)
-keysOf-from keyOf i [] = tt
-keysOf-from keyOf i (u ∷ us) = go (eqb u 1) (keysOf-from keyOf (suc i) us)
-  where
-    go : (t : Bool) → KeysOf keyOf (herdFrom keyOf (suc i) us) → KeysOf keyOf (cond t (add (keyOf i) i (herdFrom keyOf (suc i) us)) (herdFrom keyOf (suc i) us))
-    go true h = keysOf-add keyOf (keyOf i) i (herdFrom keyOf (suc i) us) refl h
-    go false h = h
-
--- Its records are in use.
-pub inUse-from : (keyOf : ℕ → ℕ) (used : ℕ → Bool) (i : ℕ) (us : List ℕ) → ((j : ℕ) → used (i + j) ≡ inUse us j) → AllInUse used (recordsOf (herdFrom keyOf i us))
-inUse-from keyOf used i [] f = tt
-inUse-from keyOf used i (u ∷ us) f = go (eqb u 1) refl (inUse-from keyOf used (suc i) us (λ j. ap used (omega arith) ∙ f (suc j)))
-  where
-    go : (t : Bool) → eqb u 1 ≡ t → AllInUse used (recordsOf (herdFrom keyOf (suc i) us))
-        → AllInUse used (recordsOf (cond t (add (keyOf i) i (herdFrom keyOf (suc i) us)) (herdFrom keyOf (suc i) us)))
-    go true e h = inUse-add used (keyOf i) i (herdFrom keyOf (suc i) us) (ap used (sym (add-zero i)) ∙ f 0 ∙ e) h
+    go : (t : Bool) → eqb u 1 ≡ t → Q (herdFrom keyOf (suc i) us) → Q (cond t (add (keyOf i) i (herdFrom keyOf (suc i) us)) (herdFrom keyOf (suc i) us))
+    go true e h = one-more i (herdFrom keyOf (suc i) us) (ap used (sym (add-zero i)) ∙ f 0 ∙ e) h
     go false e h = h
 
 -- Every record in use is in it.
@@ -153,13 +126,17 @@ pub herdOf-is : (keys used : List ℕ) → IsHerdOf (keyAt keys) (inUse used) (h
 herdOf-is keys used =
     record {
       all = λ r e. subst (λ (x : ℕ). Holds (keyAt keys x) x (herdOf keys used)) (zero-add r) (holds-from (keyAt keys) 0 r used e);
-      keysOf = keysOf-from (keyAt keys) 0 used;
-      uses = inUse-from (keyAt keys) (inUse used) 0 used (λ j. ap (inUse used) (zero-add j));
-      ordered = weaklySorted-from (keyAt keys) 0 used;
+      keysOf = keeps (KeysOf (keyAt keys)) tt (λ r s e h. keysOf-add (keyAt keys) (keyAt keys r) r s refl h);
+      uses = keeps (λ s. AllInUse (inUse used) (recordsOf s)) tt (λ r s e h. inUse-add (inUse used) (keyAt keys r) r s e h);
+      ordered = keeps WeaklySorted tt (λ r s e h. weaklySorted-add (keyAt keys r) r s h);
     }
+  where
+    keeps : (Q : Herd → Type 0) → Q [] → ((r : ℕ) (s : Herd) → inUse used r ≡ true → Q s → Q (add (keyAt keys r) r s)) → Q (herdOf keys used)
+    keeps Q nothing one-more = herdFrom-keeps (keyAt keys) (inUse used) Q nothing one-more 0 used (λ j. ap (inUse used) (zero-add j))
 
 -- A held record is in use and has the key.
-pub holds-inUse : (keyOf : ℕ → ℕ) (used : ℕ → Bool) (k r : ℕ) (s : Herd) → KeysOf keyOf s → AllInUse used (recordsOf s) → Holds k r s → (used r ≡ true) × (keyOf r ≡ k)
+pub holds-inUse : (keyOf : ℕ → ℕ) (used : ℕ → Bool) (k r : ℕ) (s : Herd) → KeysOf keyOf s → AllInUse used (recordsOf s) → Holds k r s
+    → (used r ≡ true) × (keyOf r ≡ k)
 holds-inUse keyOf used k r [] h a i = absurd i
 holds-inUse keyOf used k r (x ∷ s) h a (inl e) = (ap used (e .1) ∙ a .0, ap keyOf (e .1) ∙ h .0 ∙ sym (e .0))
 holds-inUse keyOf used k r (x ∷ s) h a (inr i) = holds-inUse keyOf used k r s (h .1) (a .1) i
@@ -181,7 +158,8 @@ absent-holds k j r (x ∷ s) a (inr i) = absent-holds k j r s (a .1) i
 pub holds-lookup : (k r : ℕ) (s : Herd) → Sorted s → Holds k r s → lookup k s ≡ some r
 holds-lookup k r [] o i = absurd i
 holds-lookup k r (x ∷ s) o (inl e) = rw (eq-eqb k x.0 (e .0)) (ap some (sym (e .1)))
-holds-lookup k r (x ∷ s) o (inr i) = rw (ne-eqb k x.0 (λ q. absent-holds x.0 k r s (above-absent x.0 x.0 s (omega arith) (o .0)) i (sym q))) (holds-lookup k r s (o .1) i)
+holds-lookup k r (x ∷ s) o (inr i) =
+    rw (ne-eqb k x.0 (λ q. absent-holds x.0 k r s (above-absent x.0 x.0 s (omega arith) (o .0)) i (sym q))) (holds-lookup k r s (o .1) i)
 
 -- What is looked up is held.
 pub lookup-holds : (k r : ℕ) (s : Herd) → lookup k s ≡ some r → Holds k r s
@@ -191,3 +169,11 @@ lookup-holds k r (x ∷ s) e = go (eqb k x.0) refl e (λ e′. lookup-holds k r 
     go : (t : Bool) → eqb k x.0 ≡ t → cond t (some x.1) (lookup k s) ≡ some r → (lookup k s ≡ some r → Holds k r s) → Holds k r (x ∷ s)
     go true q e ih = inl (eqb-true k x.0 q, (let z : x.1 ≡ r = cc in sym z))
     go false q e ih = inr (ih e)
+
+-- Its records have their keys.
+pub herdOf-keysOf : (keys used : List ℕ) → KeysOf (keyAt keys) (herdOf keys used)
+herdOf-keysOf keys used = herdOf-is keys used .keysOf
+
+-- It has as many keys as records are in use.
+pub herdOf-length : (keys used : List ℕ) → length (herdOf keys used) ≡ countInUse used
+herdOf-length keys used = length-herdFrom (keyAt keys) 0 used

@@ -72,7 +72,8 @@ pub record SmallHerds : Type 0 where
   pub p7 : Both herd7 (entry 8 (some 1) ∷ entry 0 (some 2) ∷ [])
   pub p8 : Both herd8 (entry 3 (some 1) ∷ entry 2 (some 2) ∷ entry 0 (some 3) ∷ [])
   pub p9 :
-      Both herd9 (entry 1 none ∷ entry 2 none ∷ entry 3 none ∷ entry 4 none ∷ entry 5 none ∷ entry 6 none ∷ entry 7 none ∷ entry 8 (some 1) ∷ entry 0 (some 2) ∷ [])
+      Both herd9
+      (entry 1 none ∷ entry 2 none ∷ entry 3 none ∷ entry 4 none ∷ entry 5 none ∷ entry 6 none ∷ entry 7 none ∷ entry 8 (some 1) ∷ entry 0 (some 2) ∷ [])
 
 pub small-herds : SmallHerds
 unfolding leafList

@@ -75,10 +75,15 @@ filter-none f (v ∷ vs) h = rw (h v, filter-none f vs h)
 
 -- The bounding nodes by the two sides.
 pub boundingStems-suc : (n : ℕ) (s : List Item)
-    → boundingStems (suc n) s ≡ map (λ v. false ∷ v) (boundingStems n (zeroSide s)) ++ cond (boundingStem s []) ([] ∷ map (λ v. true ∷ v) (boundingStems n (oneSide s))) (map (λ v. true ∷ v) (boundingStems n (oneSide s)))
+    → boundingStems (suc n) s
+    ≡ map (λ v. false ∷ v) (boundingStems n (zeroSide s))
+    ++ cond (boundingStem s []) ([] ∷ map (λ v. true ∷ v) (boundingStems n (oneSide s))) (map (λ v. true ∷ v) (boundingStems n (oneSide s)))
 boundingStems-suc n s =
     filter-append (boundingStem s) (map (λ v. false ∷ v) (stems n)) ([] ∷ map (λ v. true ∷ v) (stems n))
-    ∙ rw (filter-map (boundingStem s) (boundingStem (zeroSide s)) (λ v. false ∷ v) (stems n) (boundingStem-zero s), filter-map (boundingStem s) (boundingStem (oneSide s)) (λ v. true ∷ v) (stems n) (boundingStem-one s))
+    ∙ rw (
+      filter-map (boundingStem s) (boundingStem (zeroSide s)) (λ v. false ∷ v) (stems n) (boundingStem-zero s),
+      filter-map (boundingStem s) (boundingStem (oneSide s)) (λ v. true ∷ v) (stems n) (boundingStem-one s),
+    )
 
 -- A key does not begin with a string and with its sibling.
 pub begins-sibling : (p k : Key) → begins (p ++ (true ∷ [])) k ≡ true → begins (p ++ (false ∷ [])) k ≡ false
@@ -114,4 +119,7 @@ boundingStem-two s h = rw (count-one [] s, count-all (oneSide s), le-leb 2 (leng
 
 -- It is where one begins with 1 and one with 0.
 pub boundingStem-both : (s : List Item) → 0 < length (oneSide s) → 0 < length (zeroSide s) → boundingStem s [] ≡ true
-boundingStem-both s h g = rw (count-one [] s, count-zero [] s, count-all (oneSide s), count-all (zeroSide s), le-leb 1 (length (oneSide s)) h, le-leb 1 (length (zeroSide s)) g) (or-true (leb 2 (length (oneSide s))))
+boundingStem-both s h g =
+    rw
+    (count-one [] s, count-zero [] s, count-all (oneSide s), count-all (zeroSide s), le-leb 1 (length (oneSide s)) h, le-leb 1 (length (zeroSide s)) g)
+    (or-true (leb 2 (length (oneSide s))))

@@ -1,33 +1,18 @@
 -- The strings that a leaf list looks at: all of 1 to w bits that end in 1, in the order of their discriminators. Assumes nothing.
-use mathlib.Core.Path.{subst, sym, _≡_, refl, ap}
+use mathlib.Core.Path.{_≡_, refl, ap, sym}
 use mathlib.Core.Logic.{_↔_}
 use mathlib.Core.Bool.{Bool, true, false, true≢false}
-use mathlib.Core.List.{List, [], _∷_, _++_, map, List·Memᴰ, List·Memᴰ·head, List·Memᴰ·tail, Memᴰ·append-right, Memᴰ·append-left, Memᴰ·map}
+use mathlib.Core.List.{List, _∷_, map, [], List·Memᴰ, Memᴰ·append-right, List·Memᴰ·head, Memᴰ·append-left, Memᴰ·map, List·Memᴰ·tail, _++_}
 use Prim.Native.Nat.{ℕ, _≤_, suc, zero}
 use native.Mathlib.Omega.{arith}
 use lib.ListN.{length}
 use Rattle.leaf_list.specs.Keys.{Key, below, zeroBits}
 use Rattle.leaf_list.specs.LeafList.{strings, discriminator}
-
--- Every string of the list has P.
-abbrev pub Each : (Key → Type 0) → List Key → Type 0
-Each P [] = Unit {0}
-Each P (v ∷ vs) = P v × Each P vs
-
--- Two lists in a row.
-pub each-append : (P : Key → Type 0) (vs ws : List Key) → Each P vs → Each P ws → Each P (vs ++ ws)
-each-append P [] ws h g = g
-each-append P (v ∷ vs) ws h g = (h .0, each-append P vs ws (h .1) g)
+use Rattle.leaf_list.proofs.Lists.{All, all-map, all-weaker, all-append, all-member}
 
 -- Strings with a first bit in common, where Q asks of the rest what P asks of the whole.
-pub each-cons : (P Q : Key → Type 0) (b : Bool) (vs : List Key) → ((v : Key) → Q v → P (b ∷ v)) → Each Q vs → Each P (map (λ v. b ∷ v) vs)
-each-cons P Q b [] f h = tt
-each-cons P Q b (v ∷ vs) f h = (f v (h .0), each-cons P Q b vs f (h .1))
-
--- A string of the list has what every string has.
-pub each-member : (P : Key → Type 0) {v : Key} {vs : List Key} → List·Memᴰ v vs → Each P vs → P v
-each-member P (List·Memᴰ·head e) h = subst P (sym e) (h .0)
-each-member P (List·Memᴰ·tail m) h = each-member P m (h .1)
+pub all-cons : (P Q : Key → Type 0) (b : Bool) (vs : List Key) → ((v : Key) → Q v → P (b ∷ v)) → All Q vs → All P (map (λ v. b ∷ v) vs)
+all-cons P Q b vs f h = all-map P (λ v. b ∷ v) vs (all-weaker Q (λ v. P (b ∷ v)) vs f h)
 
 -- The string ends in 1.
 abbrev pub EndsInOne : Key → Type 0
@@ -44,42 +29,43 @@ pub oneToBits-cons : (n : ℕ) (b : Bool) (v : Key) → OneToBits n v → OneToB
 oneToBits-cons n b [] h = absurd (h .2)
 oneToBits-cons n b (x ∷ v) h = (omega arith, omega (arith, h .1), h .2)
 
--- Each string of the list is such a string.
-pub strings-each : (n : ℕ) → Each (OneToBits n) (strings n)
+-- All string of the list is such a string.
+pub strings-each : (n : ℕ) → All (OneToBits n) (strings n)
 strings-each zero = tt
 strings-each (suc n) =
-    each-append (OneToBits (suc n)) (map (λ v. false ∷ v) (strings n)) ((true ∷ []) ∷ map (λ v. true ∷ v) (strings n))
-    (each-cons (OneToBits (suc n)) (OneToBits n) false (strings n) (oneToBits-cons n false) (strings-each n))
-    ((omega arith, omega arith, refl), each-cons (OneToBits (suc n)) (OneToBits n) true (strings n) (oneToBits-cons n true) (strings-each n))
+    all-append (OneToBits (suc n)) (map (λ v. false ∷ v) (strings n)) ((true ∷ []) ∷ map (λ v. true ∷ v) (strings n))
+    (all-cons (OneToBits (suc n)) (OneToBits n) false (strings n) (oneToBits-cons n false) (strings-each n))
+    ((omega arith, omega arith, refl), all-cons (OneToBits (suc n)) (OneToBits n) true (strings n) (oneToBits-cons n true) (strings-each n))
 
--- Each such string is in the list.
+-- All such string is in the list.
 pub strings-all : (n : ℕ) (v : Key) → OneToBits n v → List·Memᴰ v (strings n)
 strings-all n [] h = absurd (h .2)
 strings-all zero (x ∷ v) h = absurd (omega (arith, h .1))
 strings-all (suc n) (x ∷ []) h = Memᴰ·append-right (map (λ v. false ∷ v) (strings n)) (List·Memᴰ·head (ap (λ (b : Bool). b ∷ []) (h .2)))
 strings-all (suc n) (false ∷ y ∷ v) h =
-    Memᴰ·append-left ((true ∷ []) ∷ map (λ v. true ∷ v) (strings n)) (Memᴰ·map (λ (v : Key). false ∷ v) (strings-all n (y ∷ v) (omega arith, omega (arith, h .1), h .2)))
+    Memᴰ·append-left ((true ∷ []) ∷ map (λ v. true ∷ v) (strings n))
+    (Memᴰ·map (λ (v : Key). false ∷ v) (strings-all n (y ∷ v) (omega arith, omega (arith, h .1), h .2)))
 strings-all (suc n) (true ∷ y ∷ v) h =
     Memᴰ·append-right (map (λ v. false ∷ v) (strings n))
     (List·Memᴰ·tail (Memᴰ·map (λ (v : Key). true ∷ v) (strings-all n (y ∷ v) (omega arith, omega (arith, h .1), h .2))))
 
 -- "the strings v of 1 to W bits ending in 1": exactly these.
 pub strings-exactly : (w : ℕ) (v : Key) → List·Memᴰ v (strings w) ↔ ((1 ≤ length v) × (length v ≤ w) × EndsInOne v)
-strings-exactly w v = ((λ m. each-member (OneToBits w) m (strings-each w)), strings-all w v)
+strings-exactly w v = ((λ m. all-member (OneToBits w) m (strings-each w)), strings-all w v)
 
 -- The discriminator of v is below those of the strings vs.
 abbrev pub BelowEach : ℕ → Key → List Key → Type 0
-BelowEach n v vs = Each (λ v′. below (discriminator n v) (discriminator n v′) ≡ true) vs
+BelowEach n v vs = All (λ v′. below (discriminator n v) (discriminator n v′) ≡ true) vs
 
--- Each discriminator is below all later ones.
+-- All discriminator is below all later ones.
 abbrev pub RisingStrings : ℕ → List Key → Type 0
 RisingStrings n [] = Unit {0}
 RisingStrings n (v ∷ vs) = BelowEach n v vs × RisingStrings n vs
 
 -- A first bit in common does not count.
 pub belowEach-cons : (b : Bool) (n : ℕ) (v : Key) (vs : List Key) → BelowEach n v vs → BelowEach (suc n) (b ∷ v) (map (λ u. b ∷ u) vs)
-belowEach-cons false n v vs h = each-cons _ (λ v′. below (discriminator n v) (discriminator n v′) ≡ true) false vs (λ v′ e. e) h
-belowEach-cons true n v vs h = each-cons _ (λ v′. below (discriminator n v) (discriminator n v′) ≡ true) true vs (λ v′ e. e) h
+belowEach-cons false n v vs h = all-cons _ (λ v′. below (discriminator n v) (discriminator n v′) ≡ true) false vs (λ v′ e. e) h
+belowEach-cons true n v vs h = all-cons _ (λ v′. below (discriminator n v) (discriminator n v′) ≡ true) true vs (λ v′ e. e) h
 
 -- What begins with 0 is below what begins with 1.
 pub belowEach-cross : (n : ℕ) (v : Key) (vs : List Key) → BelowEach (suc n) (false ∷ v) (map (λ u. true ∷ u) vs)
@@ -104,7 +90,7 @@ pub rising-middle : (n : ℕ) (vs ws : List Key) → RisingStrings n vs → Risi
     → RisingStrings (suc n) (map (λ v. false ∷ v) vs ++ ((true ∷ []) ∷ map (λ v. true ∷ v) ws))
 rising-middle n [] ws h g = g
 rising-middle n (v ∷ vs) ws h g = (
-  each-append _ (map (λ u. false ∷ u) vs) ((true ∷ []) ∷ map (λ u. true ∷ u) ws) (belowEach-cons false n v vs (h .0)) (refl, belowEach-cross n v ws),
+  all-append _ (map (λ u. false ∷ u) vs) ((true ∷ []) ∷ map (λ u. true ∷ u) ws) (belowEach-cons false n v vs (h .0)) (refl, belowEach-cross n v ws),
   rising-middle n vs ws (h .1) g,
 )
 
@@ -113,4 +99,4 @@ pub strings-rising : (w : ℕ) → RisingStrings w (strings w)
 strings-rising zero = tt
 strings-rising (suc n) =
     rising-middle n (strings n) (strings n) (strings-rising n)
-    (each-cons _ (OneToBits n) true (strings n) (discriminator-positive n) (strings-each n), rising-one n (strings n) (strings-rising n))
+    (all-cons _ (OneToBits n) true (strings n) (discriminator-positive n) (strings-each n), rising-one n (strings n) (strings-rising n))

@@ -52,7 +52,9 @@ subHerd-same (y ∷ s) (x ∷ xs) o q h e = go (h .0) (λ a. subHerd-same s xs (
     go (inl z) f =
         let p : x ≡ y = λ i. (z .0 i, z .1 i) in
         ap₂ (λ (a : ℕ × ℕ) (b : Herd). a ∷ b) p (f (subHerd-later y s xs (above-trans y.0 x.0 xs (omega (arith, z .0)) (o .0)) (h .1)))
-    go (inr i) f = absurd (omega (arith, subHerd-length s (x ∷ xs) o (q .1) (i, subHerd-later y s xs (above-trans y.0 x.0 xs (holds-atLeast y.0 x.0 x.1 s (q .0) i) (o .0)) (h .1))))
+    go (inr i) f =
+        absurd
+        (omega (arith, subHerd-length s (x ∷ xs) o (q .1) (i, subHerd-later y s xs (above-trans y.0 x.0 xs (holds-atLeast y.0 x.0 x.1 s (q .0) i) (o .0)) (h .1))))
 
 -- As many keys as records.
 pub length-herdWith : (keyOf : ℕ → ℕ) (rs : List ℕ) → length (herdWith keyOf rs) ≡ length rs
@@ -72,11 +74,12 @@ narrow-inUse w keyOf used narrow (x ∷ s) k a = (subst (λ (y : ℕ). y < 2 ^ w
 
 -- The list against the herd of a register.
 module _ (w : ℕ) (keyOf : ℕ → ℕ) (used : ℕ → Bool) (s : Herd) (b : IsHerdOf keyOf used s) (narrow : (r : ℕ) → used r ≡ true → keyOf r < 2 ^ w) where
+  -- Records in use are in the herd.
   subHerd-with : (rs : List ℕ) → AllInUse used rs → SubHerd (herdWith keyOf rs) s
   subHerd-with [] a = tt
   subHerd-with (r ∷ rs) a = (b .all r (a .0), subHerd-with rs (a .1))
 
-  -- the linear check
+  -- A list fits, with as many live entries as the herd has keys, exactly if it is the leaf list and the herd is sorted.
   pub fitting-leafList : (es : List Entry)
       → (Fitting w (bitsOf w keyOf) used (zeroBits w) 0 false es × (length (liveRecords es) ≡ length s)) ↔ ((es ≡ trieList w s) × Sorted s)
   fitting-leafList es = (to, fro)
@@ -84,7 +87,8 @@ module _ (w : ℕ) (keyOf : ℕ → ℕ) (used : ℕ → Bool) (s : Herd) (b : I
       to : Fitting w (bitsOf w keyOf) used (zeroBits w) 0 false es × (length (liveRecords es) ≡ length s) → (es ≡ trieList w s) × Sorted s
       to h =
           let o : OwnList w keyOf used narrow es = fitting-own w keyOf used narrow es (h .0) in
-          let e : herdWith keyOf (liveRecords es) ≡ s = subHerd-same s (herdWith keyOf (liveRecords es)) (o .1) (b .ordered) (subHerd-with (liveRecords es) (o .2)) (length-herdWith keyOf (liveRecords es) ∙ h .1) in
+          let e : herdWith keyOf (liveRecords es) ≡ s =
+          subHerd-same s (herdWith keyOf (liveRecords es)) (o .1) (b .ordered) (subHerd-with (liveRecords es) (o .2)) (length-herdWith keyOf (liveRecords es) ∙ h .1) in
           (o .0 ∙ ap (trieList w) e, subst Sorted e (o .1))
 
       fro : (es ≡ trieList w s) × Sorted s → Fitting w (bitsOf w keyOf) used (zeroBits w) 0 false es × (length (liveRecords es) ≡ length s)

@@ -14,7 +14,8 @@ use Rattle.leaf_list.proofs.Paths.{Differ}
 use Rattle.leaf_list.proofs.Tries.{Branching, NotHeld, Given, underZero-branching, underOne-branching, Held, Pruned}
 use Rattle.leaf_list.proofs.TrieInsertion.{insertTrie, twoLeaves}
 use Rattle.leaf_list.proofs.TrieDeletion.{deleteTrie}
-use Rattle.leaf_list.proofs.TrieOf.{Lengths, NoKey, noKey-empty, trieOf-suc, lengths-zero, noKey-zero, trieOf-notHeld, lengths-one, noKey-one}
+use Rattle.leaf_list.proofs.Items.{Lengths, NoKey, noKey-empty, lengths-zero, noKey-zero, lengths-one, noKey-one}
+use Rattle.leaf_list.proofs.TrieOf.{trieOf-suc, trieOf-notHeld, trieOf-nil}
 
 -- s′ is s with x in it once more.
 pub data With (x : Item) : List Item → List Item → Type 0 where
@@ -123,14 +124,21 @@ trieOf-insert zero k r s s′ i e h m = trieOf-only i (noKey-empty k s e h m) �
 trieOf-insert (suc n) [] r s s′ i e h m = absurd (omega arith)
 trieOf-insert (suc n) (false ∷ k) r s s′ i e h m =
     trieOf-suc n s′
-    ∙ ap₂ join (trieOf-insert n k r (zeroSide s) (zeroSide s′) (with-zeroSide i) (omega arith) (lengths-zero n s h) (noKey-zero k s m)) (ap (trieOf n) (oneSide-same i))
-    ∙ join-insert-zero k r (trieOf n (zeroSide s)) (trieOf n (oneSide s)) (trieOf-notHeld n k (zeroSide s) (omega arith) (lengths-zero n s h) (noKey-zero k s m))
+    ∙ ap₂ join (trieOf-insert n k r (zeroSide s) (zeroSide s′) (with-zeroSide i) (omega arith) (lengths-zero n s h) (noKey-zero k s m))
+    (ap (trieOf n) (oneSide-same i))
+    ∙ join-insert-zero k r (trieOf n (zeroSide s)) (trieOf n (oneSide s))
+    (trieOf-notHeld n k (zeroSide s) (omega arith) (lengths-zero n s h) (noKey-zero k s m))
     ∙ ap (insertOption (false ∷ k) r) (sym (trieOf-suc n s))
 trieOf-insert (suc n) (true ∷ k) r s s′ i e h m =
     trieOf-suc n s′
-    ∙ ap₂ join (ap (trieOf n) (zeroSide-same i)) (trieOf-insert n k r (oneSide s) (oneSide s′) (with-oneSide i) (omega arith) (lengths-one n s h) (noKey-one k s m))
+    ∙ ap₂ join (ap (trieOf n) (zeroSide-same i))
+    (trieOf-insert n k r (oneSide s) (oneSide s′) (with-oneSide i) (omega arith) (lengths-one n s h) (noKey-one k s m))
     ∙ join-insert-one k r (trieOf n (zeroSide s)) (trieOf n (oneSide s)) (trieOf-notHeld n k (oneSide s) (omega arith) (lengths-one n s h) (noKey-one k s m))
     ∙ ap (insertOption (true ∷ k) r) (sym (trieOf-suc n s))
+
+-- The trie of one key is a leaf.
+pub trieOf-single : (n : ℕ) (k : Key) (r : ℕ) → length k ≡ n → trieOf n (item k r ∷ []) ≡ some (leaf k r)
+trieOf-single n k r e = trieOf-insert n k r [] (item k r ∷ []) here e tt tt ∙ rw (trieOf-nil n)
 
 -- The new one of two keys is held.
 pub twoLeaves-held : (k k′ : Key) (r r′ : ℕ) → Differ k k′ → Held k r (twoLeaves k r k′ r′)

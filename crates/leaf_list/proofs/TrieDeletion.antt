@@ -11,7 +11,7 @@ use Rattle.leaf_list.specs.Entries.{Entry, entry}
 use Rattle.leaf_list.specs.Trie.{Trie, leaf, zero-only, join, one-only, fork, write, underOne, underZero}
 use Rattle.leaf_list.specs.Insertion.{trailing}
 use Rattle.leaf_list.specs.Deletion.{dropDummies, deleteAt, deleteOther}
-use Rattle.leaf_list.proofs.Tries.{Branching, Pruned, lastRecord, Held}
+use Rattle.leaf_list.proofs.Tries.{Branching, Pruned, lastRecord, leaf-or-branching, underOne-branching, underZero-branching, Held}
 use Rattle.leaf_list.proofs.Places.{passFront, rewind, passed, remaining}
 
 -- The trie without a key.
@@ -89,14 +89,18 @@ dropDummies-none (entry d′ none ∷ before) d h = rw (le-ltb d d′ h)
 dropDummies-none (entry d′ (some r) ∷ before) d h = refl
 
 -- A node with two keys starts deeper than itself, so the entry before it becomes a dummy.
-pub deleteOther-dummy : (t : Trie) (before rest : List Entry) (m l c : ℕ) → Branching t → Pruned t → m ≤ l → deleteOther before m (write l t c rest) ≡ reverseAux before (entry m none ∷ write l t c rest)
+pub deleteOther-dummy : (t : Trie) (before rest : List Entry) (m l c : ℕ) → Branching t → Pruned t → m ≤ l
+    → deleteOther before m (write l t c rest) ≡ reverseAux before (entry m none ∷ write l t c rest)
 deleteOther-dummy (leaf k r) before rest m l c y g h = absurd y
 deleteOther-dummy (zero-only t) before rest m l c y g h = deleteOther-dummy t before rest m (suc l) c (g .0) (g .1) (omega arith)
 deleteOther-dummy (one-only t) before rest m l c y g h = rw (le-ltb (suc l) m (omega arith))
 deleteOther-dummy (fork (leaf k r) b) before rest m l c y g h = rw (le-ltb (suc l) m (omega arith))
-deleteOther-dummy (fork (zero-only a) b) before rest m l c y g h = deleteOther-dummy (zero-only a) before (write (suc l) b c rest) m (suc l) (suc l) tt (g .0) (omega arith)
-deleteOther-dummy (fork (one-only a) b) before rest m l c y g h = deleteOther-dummy (one-only a) before (write (suc l) b c rest) m (suc l) (suc l) tt (g .0) (omega arith)
-deleteOther-dummy (fork (fork a d) b) before rest m l c y g h = deleteOther-dummy (fork a d) before (write (suc l) b c rest) m (suc l) (suc l) tt (g .0) (omega arith)
+deleteOther-dummy (fork (zero-only a) b) before rest m l c y g h =
+    deleteOther-dummy (zero-only a) before (write (suc l) b c rest) m (suc l) (suc l) tt (g .0) (omega arith)
+deleteOther-dummy (fork (one-only a) b) before rest m l c y g h =
+    deleteOther-dummy (one-only a) before (write (suc l) b c rest) m (suc l) (suc l) tt (g .0) (omega arith)
+deleteOther-dummy (fork (fork a d) b) before rest m l c y g h =
+    deleteOther-dummy (fork a d) before (write (suc l) b c rest) m (suc l) (suc l) tt (g .0) (omega arith)
 
 -- The entry before the last of a node with two keys is live.
 pub dropDummies-front : (t : Trie) (before : List Entry) (l c : ℕ) → Branching t → Pruned t → dropDummies c (passFront l t before) ≡ passFront l t before
@@ -104,9 +108,12 @@ dropDummies-front (leaf k r) before l c y g = absurd y
 dropDummies-front (zero-only t) before l c y g = dropDummies-front t before (suc l) c (g .0) (g .1)
 dropDummies-front (one-only t) before l c y g = dropDummies-front t (entry (suc l) none ∷ before) (suc l) c (g .0) (g .1)
 dropDummies-front (fork a (leaf k r)) before l c y g = refl
-dropDummies-front (fork a (zero-only b)) before l c y g = dropDummies-front (zero-only b) (entry (suc l) (some (lastRecord a)) ∷ passFront (suc l) a before) (suc l) c tt (g .1)
-dropDummies-front (fork a (one-only b)) before l c y g = dropDummies-front (one-only b) (entry (suc l) (some (lastRecord a)) ∷ passFront (suc l) a before) (suc l) c tt (g .1)
-dropDummies-front (fork a (fork b d)) before l c y g = dropDummies-front (fork b d) (entry (suc l) (some (lastRecord a)) ∷ passFront (suc l) a before) (suc l) c tt (g .1)
+dropDummies-front (fork a (zero-only b)) before l c y g =
+    dropDummies-front (zero-only b) (entry (suc l) (some (lastRecord a)) ∷ passFront (suc l) a before) (suc l) c tt (g .1)
+dropDummies-front (fork a (one-only b)) before l c y g =
+    dropDummies-front (one-only b) (entry (suc l) (some (lastRecord a)) ∷ passFront (suc l) a before) (suc l) c tt (g .1)
+dropDummies-front (fork a (fork b d)) before l c y g =
+    dropDummies-front (fork b d) (entry (suc l) (some (lastRecord a)) ∷ passFront (suc l) a before) (suc l) c tt (g .1)
 
 -- One bit further up, all keys on the 0-side.
 pub writeLeft-zero : (o : Option Trie) (l c : ℕ) (before rest : List Entry) → writeLeft (suc l) o c before rest ≡ writeLeft l (join o none) c before rest
@@ -117,7 +124,8 @@ writeLeft-zero (some (one-only t)) l c before rest = refl
 writeLeft-zero (some (fork a b)) l c before rest = refl
 
 -- One bit further up, all keys on the 1-side.
-pub writeLeft-one : (o : Option Trie) (l c : ℕ) (before rest : List Entry) → NonEmpty o → c ≤ l → writeLeft (suc l) o c (entry (suc l) none ∷ before) rest ≡ writeLeft l (join none o) c before rest
+pub writeLeft-one : (o : Option Trie) (l c : ℕ) (before rest : List Entry) → NonEmpty o → c ≤ l
+    → writeLeft (suc l) o c (entry (suc l) none ∷ before) rest ≡ writeLeft l (join none o) c before rest
 writeLeft-one none l c before rest y h = absurd y
 writeLeft-one (some (leaf k r)) l c before rest y h = rw (lt-ltb c (suc l) (omega arith))
 writeLeft-one (some (zero-only t)) l c before rest y h = refl
@@ -145,53 +153,68 @@ writeLeft-right a (some (fork b d)) l c before rest y = rewind a (suc l) (suc l)
 -- A 0-leaf with a sibling is taken out.
 pub delete-zero-leaf : (b : Trie) (l c r : ℕ) (before rest : List Entry) → Pruned b → c ≤ l → trailing before ≤ l
     → deleteAt before (entry (suc l) (some r) ∷ write (suc l) b c rest) ≡ writeLeft l (some (underOne b)) c before rest
-delete-zero-leaf (leaf k r′) l c r before rest g hc hL = deleteAt-other before (entry c (some r′) ∷ rest) (suc l) (some r) (omega arith) ∙ rw (lt-ltb c (suc l) (omega arith))
-delete-zero-leaf (zero-only b) l c r before rest g hc hL = deleteAt-other before (write (suc l) (zero-only b) c rest) (suc l) (some r) (omega arith) ∙ deleteOther-dummy (zero-only b) before rest (suc l) (suc l) c tt g (omega arith)
-delete-zero-leaf (one-only b) l c r before rest g hc hL = deleteAt-other before (write (suc l) (one-only b) c rest) (suc l) (some r) (omega arith) ∙ deleteOther-dummy (one-only b) before rest (suc l) (suc l) c tt g (omega arith)
-delete-zero-leaf (fork b d) l c r before rest g hc hL = deleteAt-other before (write (suc l) (fork b d) c rest) (suc l) (some r) (omega arith) ∙ deleteOther-dummy (fork b d) before rest (suc l) (suc l) c tt g (omega arith)
+delete-zero-leaf b l c r before rest g hc hτ =
+    deleteAt-other before (write (suc l) b c rest) (suc l) (some r) (omega arith)
+    ∙ leaf-or-branching (λ b. Pruned b → deleteOther before (suc l) (write (suc l) b c rest) ≡ writeLeft l (some (underOne b)) c before rest)
+    (λ k r′ g. rw (lt-ltb c (suc l) (omega arith)))
+    (λ b m g. deleteOther-dummy b before rest (suc l) (suc l) c m g (omega arith) ∙ rw (underOne-branching b m)) b g
 
 -- A 1-leaf with a sibling is taken out.
 pub delete-one-leaf : (a : Trie) (l c r : ℕ) (before rest : List Entry) → Pruned a → c ≤ l
     → deleteAt (entry (suc l) (some (lastRecord a)) ∷ passFront (suc l) a before) (entry c (some r) ∷ rest) ≡ writeLeft l (some (underZero a)) c before rest
-delete-one-leaf (leaf k r′) l c r before rest g hc = rw (lt-ltb c (suc l) (omega arith))
-delete-one-leaf (zero-only a) l c r before rest g hc = rw (lt-ltb c (suc l) (omega arith), dropDummies-front (zero-only a) before (suc l) c tt g) (rewind (zero-only a) (suc l) c before rest)
-delete-one-leaf (one-only a) l c r before rest g hc = rw (lt-ltb c (suc l) (omega arith), dropDummies-front (one-only a) before (suc l) c tt g) (rewind (one-only a) (suc l) c before rest)
-delete-one-leaf (fork a d) l c r before rest g hc = rw (lt-ltb c (suc l) (omega arith), dropDummies-front (fork a d) before (suc l) c tt g) (rewind (fork a d) (suc l) c before rest)
+delete-one-leaf a l c r before rest g hc =
+    rw (lt-ltb c (suc l) (omega arith))
+    (leaf-or-branching
+    (λ a. Pruned a → reverseAux (dropDummies c (passFront (suc l) a before)) (entry c (some (lastRecord a)) ∷ rest) ≡ writeLeft l (some (underZero a)) c before rest)
+    (λ k r′ g. refl)
+    (λ a m g. rw (dropDummies-front a before (suc l) c m g, underZero-branching a m) (rewind a (suc l) c before rest)) a g)
+
+-- Deletion at the place that a search for k finds in a node makes the entries es.
+abbrev pub Deletes : Trie → Key → ℕ → ℕ → List Entry → List Entry → List Entry → Type 0
+Deletes t k l c before rest es = deleteAt (passed l t k before) (remaining l t k c rest) ≡ es
 
 -- The 0-side of a fork: a leaf, or by the hypothesis.
-pub delete-left : (a b : Trie) (k : Key) (r l c : ℕ) (before rest : List Entry) → Held k r a → Pruned a → Pruned b → c ≤ l → trailing before ≤ l
-    → (Branching a → deleteAt (passed (suc l) a k before) (remaining (suc l) a k (suc l) (write (suc l) b c rest)) ≡ writeLeft (suc l) (deleteTrie k a) (suc l) before (write (suc l) b c rest))
-    → deleteAt (passed (suc l) a k before) (remaining (suc l) a k (suc l) (write (suc l) b c rest)) ≡ writeLeft l (join (deleteTrie k a) (some b)) c before rest
-delete-left (leaf k′ r′) b k r l c before rest y g g′ hc hL ih = rw (y .0) (delete-zero-leaf b l c r′ before rest g′ hc hL)
-delete-left (zero-only a) b k r l c before rest y g g′ hc hL ih = ih tt ∙ writeLeft-left (deleteTrie k (zero-only a)) b l c before rest (deleteTrie-nonEmpty (zero-only a) k tt g) hL
-delete-left (one-only a) b k r l c before rest y g g′ hc hL ih = ih tt ∙ writeLeft-left (deleteTrie k (one-only a)) b l c before rest (deleteTrie-nonEmpty (one-only a) k tt g) hL
-delete-left (fork a d) b k r l c before rest y g g′ hc hL ih = ih tt ∙ writeLeft-left (deleteTrie k (fork a d)) b l c before rest (deleteTrie-nonEmpty (fork a d) k tt g) hL
+abbrev pub DeletesLeft : Trie → Key → ℕ → ℕ → ℕ → List Entry → List Entry → Trie → Type 0
+DeletesLeft b k r l c before rest a =
+    Held k r a → Pruned a
+    → (Branching a → Deletes a k (suc l) (suc l) before (write (suc l) b c rest) (writeLeft (suc l) (deleteTrie k a) (suc l) before (write (suc l) b c rest)))
+    → Deletes a k (suc l) (suc l) before (write (suc l) b c rest) (writeLeft l (join (deleteTrie k a) (some b)) c before rest)
 
--- The 1-side of a fork: a leaf, or by the hypothesis.
-pub delete-right : (a b : Trie) (k : Key) (r l c : ℕ) (before rest : List Entry) → Held k r b → Pruned a → Pruned b → c ≤ l
-    → (Branching b → deleteAt (passed (suc l) b k (entry (suc l) (some (lastRecord a)) ∷ passFront (suc l) a before)) (remaining (suc l) b k c rest)
-    ≡ writeLeft (suc l) (deleteTrie k b) c (entry (suc l) (some (lastRecord a)) ∷ passFront (suc l) a before) rest)
-    → deleteAt (passed (suc l) b k (entry (suc l) (some (lastRecord a)) ∷ passFront (suc l) a before)) (remaining (suc l) b k c rest) ≡ writeLeft l (join (some a) (deleteTrie k b)) c before rest
-delete-right a (leaf k′ r′) k r l c before rest y g g′ hc ih = rw (y .0) (delete-one-leaf a l c r′ before rest g hc)
-delete-right a (zero-only b) k r l c before rest y g g′ hc ih = ih tt ∙ writeLeft-right a (deleteTrie k (zero-only b)) l c before rest (deleteTrie-nonEmpty (zero-only b) k tt g′)
-delete-right a (one-only b) k r l c before rest y g g′ hc ih = ih tt ∙ writeLeft-right a (deleteTrie k (one-only b)) l c before rest (deleteTrie-nonEmpty (one-only b) k tt g′)
-delete-right a (fork b d) k r l c before rest y g g′ hc ih = ih tt ∙ writeLeft-right a (deleteTrie k (fork b d)) l c before rest (deleteTrie-nonEmpty (fork b d) k tt g′)
+pub delete-left : (a b : Trie) (k : Key) (r l c : ℕ) (before rest : List Entry) → Pruned b → c ≤ l → trailing before ≤ l → DeletesLeft b k r l c before rest a
+delete-left a b k r l c before rest g′ hc hτ =
+    leaf-or-branching (DeletesLeft b k r l c before rest) (λ k′ r′ y g ih. rw (y .0) (delete-zero-leaf b l c r′ before rest g′ hc hτ))
+    (λ a m y g ih. ih m ∙ writeLeft-left (deleteTrie k a) b l c before rest (deleteTrie-nonEmpty a k m g) hτ) a
+
+-- The 1-side of a fork, after the entries of its 0-side.
+abbrev pub DeletesRight : Trie → Key → ℕ → ℕ → ℕ → List Entry → List Entry → Trie → Type 0
+DeletesRight a k r l c before rest b =
+    Held k r b → Pruned b
+    → (Branching b → Deletes b k (suc l) c (entry (suc l) (some (lastRecord a)) ∷ passFront (suc l) a before) rest
+    (writeLeft (suc l) (deleteTrie k b) c (entry (suc l) (some (lastRecord a)) ∷ passFront (suc l) a before) rest))
+    → Deletes b k (suc l) c (entry (suc l) (some (lastRecord a)) ∷ passFront (suc l) a before) rest (writeLeft l (join (some a) (deleteTrie k b)) c before rest)
+
+pub delete-right : (a b : Trie) (k : Key) (r l c : ℕ) (before rest : List Entry) → Pruned a → c ≤ l → DeletesRight a k r l c before rest b
+delete-right a b k r l c before rest g hc =
+    leaf-or-branching (DeletesRight a k r l c before rest) (λ k′ r′ y g′ ih. rw (y .0) (delete-one-leaf a l c r′ before rest g hc))
+    (λ b m y g′ ih. ih m ∙ writeLeft-right a (deleteTrie k b) l c before rest (deleteTrie-nonEmpty b k m g′)) b
 
 -- Figure 11 in the entries of a node with two keys.
 pub delete-node : (t : Trie) (k : Key) (r l c : ℕ) (before rest : List Entry) → Held k r t → Branching t → Pruned t → c ≤ l → trailing before ≤ l
-    → deleteAt (passed l t k before) (remaining l t k c rest) ≡ writeLeft l (deleteTrie k t) c before rest
-delete-node (leaf k′ r′) k r l c before rest y m g hc hL = absurd m
-delete-node (zero-only t) [] r l c before rest y m g hc hL = absurd y
-delete-node (zero-only t) (false ∷ k) r l c before rest y m g hc hL = delete-node t k r (suc l) c before rest y (g .0) (g .1) (omega arith) (omega arith) ∙ writeLeft-zero (deleteTrie k t) l c before rest
-delete-node (zero-only t) (true ∷ k) r l c before rest y m g hc hL = absurd y
-delete-node (one-only t) [] r l c before rest y m g hc hL = absurd y
-delete-node (one-only t) (false ∷ k) r l c before rest y m g hc hL = absurd y
-delete-node (one-only t) (true ∷ k) r l c before rest y m g hc hL =
+    → Deletes t k l c before rest (writeLeft l (deleteTrie k t) c before rest)
+delete-node (leaf k′ r′) k r l c before rest y m g hc hτ = absurd m
+delete-node (zero-only t) [] r l c before rest y m g hc hτ = absurd y
+delete-node (zero-only t) (false ∷ k) r l c before rest y m g hc hτ =
+    delete-node t k r (suc l) c before rest y (g .0) (g .1) (omega arith) (omega arith) ∙ writeLeft-zero (deleteTrie k t) l c before rest
+delete-node (zero-only t) (true ∷ k) r l c before rest y m g hc hτ = absurd y
+delete-node (one-only t) [] r l c before rest y m g hc hτ = absurd y
+delete-node (one-only t) (false ∷ k) r l c before rest y m g hc hτ = absurd y
+delete-node (one-only t) (true ∷ k) r l c before rest y m g hc hτ =
     delete-node t k r (suc l) c (entry (suc l) none ∷ before) rest y (g .0) (g .1) (omega arith) (omega arith)
     ∙ writeLeft-one (deleteTrie k t) l c before rest (deleteTrie-nonEmpty t k (g .0) (g .1)) hc
-delete-node (fork a b) [] r l c before rest y m g hc hL = absurd y
-delete-node (fork a b) (false ∷ k) r l c before rest y m g hc hL =
-    delete-left a b k r l c before rest y (g .0) (g .1) hc hL (λ n. delete-node a k r (suc l) (suc l) before (write (suc l) b c rest) y n (g .0) (omega arith) (omega arith))
-delete-node (fork a b) (true ∷ k) r l c before rest y m g hc hL =
-    delete-right a b k r l c before rest y (g .0) (g .1) hc
+delete-node (fork a b) [] r l c before rest y m g hc hτ = absurd y
+delete-node (fork a b) (false ∷ k) r l c before rest y m g hc hτ =
+    delete-left a b k r l c before rest (g .1) hc hτ y (g .0)
+    (λ n. delete-node a k r (suc l) (suc l) before (write (suc l) b c rest) y n (g .0) (omega arith) (omega arith))
+delete-node (fork a b) (true ∷ k) r l c before rest y m g hc hτ =
+    delete-right a b k r l c before rest (g .0) hc y (g .1)
     (λ n. delete-node b k r (suc l) c (entry (suc l) (some (lastRecord a)) ∷ passFront (suc l) a before) rest y n (g .1) (omega arith) (omega arith))

@@ -14,7 +14,7 @@ use Rattle.leaf_list.specs.Trie.{Trie, leaf, zero-only, fork, one-only, 
 use Rattle.leaf_list.specs.Search.{positions}
 use Rattle.leaf_list.specs.Insertion.{leafDepth, dummies, bothLeaves, trailing, insertInto}
 use Rattle.leaf_list.proofs.Paths.{Differ, firstDifference-above, firstDifference-path, below-path}
-use Rattle.leaf_list.proofs.Tries.{Branching, Pruned, KeysIn, lastRecord, key-of-last, lastBits, NotHeld}
+use Rattle.leaf_list.proofs.Tries.{Branching, Pruned, KeysIn, lastRecord, key-of-last, lastBits, NotHeld, AtLeaf, at-branching, at-leaf}
 use Rattle.leaf_list.proofs.Places.{passFront, trailing-front, rewind, passed, remaining}
 
 -- 01's rule for the leaf's depth is the larger of the two depths, with 0 before the first entry.
@@ -49,7 +49,8 @@ insertTrie (false ∷ k) r (fork a b) = fork (insertTrie k r a) b
 insertTrie (true ∷ k) r (fork a b) = fork a (insertTrie k r b)
 
 -- No dummy is made for a one-bit of the path.
-pub dummies-path : (u k : Key) (m b : ℕ) (rest : List Entry) → length u ≤ m → dummies m b (positions 0 (reverseAux u k)) rest ≡ dummies m b (positions (length u) k) rest
+pub dummies-path : (u k : Key) (m b : ℕ) (rest : List Entry) → length u ≤ m
+    → dummies m b (positions 0 (reverseAux u k)) rest ≡ dummies m b (positions (length u) k) rest
 dummies-path [] k m b rest h = refl
 dummies-path (false ∷ u) k m b rest h = dummies-path u (false ∷ k) m b rest (omega arith)
 dummies-path (true ∷ u) k m b rest h = dummies-path u (true ∷ k) m b rest (omega arith) ∙ rw (le-ltb m (suc (length u)) h)
@@ -73,37 +74,25 @@ write-twoLeaves (true ∷ k) (true ∷ k′) r r′ l m c rest a h =
     rw (lt-ltb m (suc l) (omega arith), lt-ltb (suc l) (firstDifference (suc l) k k′) (firstDifference-above (suc l) k k′))
     (ap (λ (x : List Entry). entry (suc l) none ∷ x) (write-twoLeaves k k′ r r′ (suc l) m c rest a (omega arith)))
 
--- At a leaf, the rule for its depth holds.
-abbrev pub DepthRule : Trie → ℕ → ℕ → ℕ → Type 0
-DepthRule (leaf k r) τ c l = max τ c ≡ l
-DepthRule (zero-only t) τ c l = Unit {0}
-DepthRule (one-only t) τ c l = Unit {0}
-DepthRule (fork a b) τ c l = Unit {0}
-
--- It is kept.
-pub depthRule : (t : Trie) (τ c l : ℕ) → max τ c ≡ l → DepthRule t τ c l
-depthRule (leaf k r) τ c l e = e
-depthRule (zero-only t) τ c l e = tt
-depthRule (one-only t) τ c l e = tt
-depthRule (fork a b) τ c l e = tt
-
--- It asks nothing of a node with two keys.
-pub depthRule-branching : (t : Trie) (τ c l : ℕ) → Branching t → DepthRule t τ c l
-depthRule-branching (leaf k r) τ c l m = absurd m
-depthRule-branching (zero-only t) τ c l m = tt
-depthRule-branching (one-only t) τ c l m = tt
-depthRule-branching (fork a b) τ c l m = tt
-
 -- Insertion into the entries of a node.
 module _ (keyOf : ℕ → Key) where
+  -- At a leaf, b is above l.
   insert-at-leaf : (u k k′ : Key) (r r′ c : ℕ) (before rest : List Entry) → Differ k k′ → keyOf r′ ≡ reverseAux u k′ → max (trailing before) c ≡ length u
-      → insertInto keyOf (reverseAux u k) r (before, (entry c (some r′) ∷ rest)) ≡ reverseAux before (write (length u) (twoLeaves k r k′ r′) c rest)
+      → insertInto keyOf (reverseAux u k) r (before, entry c (some r′) ∷ rest) ≡ reverseAux before (write (length u) (twoLeaves k r k′ r′) c rest)
   insert-at-leaf u k k′ r r′ c before rest a g e =
-      rw (g, firstDifference-path u k k′, below-path u k k′, leafDepth-max (trailing before) c, e, le-ltb (firstDifference (length u) k k′) (length u) (omega (arith, firstDifference-above (length u) k k′)))
+      rw (
+        g,
+        firstDifference-path u k k′,
+        below-path u k k′,
+        leafDepth-max (trailing before) c,
+        e,
+        le-ltb (firstDifference (length u) k k′) (length u) (omega (arith, firstDifference-above (length u) k k′)),
+      )
       (ap (reverseAux before) (dummies-path u k (length u) _ _ (omega arith) ∙ write-twoLeaves k k′ r r′ (length u) (length u) c rest a (omega arith)))
 
+  -- After a node whose keys all go on with 0, b is below l.
   insert-after-zeros : (u k : Key) (t : Trie) (r c : ℕ) (before rest : List Entry) → Branching t → Pruned t → KeysIn keyOf (false ∷ u) t
-      → insertInto keyOf (reverseAux u (true ∷ k)) r ((passFront (suc (length u)) t before), (entry c (some (lastRecord t)) ∷ rest))
+      → insertInto keyOf (reverseAux u (true ∷ k)) r (passFront (suc (length u)) t before, entry c (some (lastRecord t)) ∷ rest)
       ≡ reverseAux before (write (suc (length u)) t (suc (length u)) (entry c (some r) ∷ rest))
   insert-after-zeros u k t r c before rest m g q =
       rw (
@@ -114,23 +103,26 @@ module _ (keyOf : ℕ → Key) where
       )
       (rewind t (suc (length u)) (suc (length u)) before (entry c (some r) ∷ rest))
 
+  -- At the place that a search finds in a node.
   pub insert-node : (t : Trie) (u k : Key) (r c : ℕ) (before rest : List Entry)
-      → NotHeld k t → Pruned t → KeysIn keyOf u t → c ≤ length u → trailing before ≤ length u → DepthRule t (trailing before) c (length u)
-      → insertInto keyOf (reverseAux u k) r ((passed (length u) t k before), (remaining (length u) t k c rest)) ≡ reverseAux before (write (length u) (insertTrie k r t) c rest)
-  insert-node (leaf k′ r′) u k r c before rest f g q hc hL e = insert-at-leaf u k k′ r r′ c before rest f q e
-  insert-node (zero-only t) u [] r c before rest f g q hc hL e = absurd f
-  insert-node (zero-only t) u (false ∷ k) r c before rest f g q hc hL e =
-      insert-node t (false ∷ u) k r c before rest f (g .1) q (omega arith) (omega arith) (depthRule-branching t (trailing before) c (suc (length u)) (g .0))
-  insert-node (zero-only t) u (true ∷ k) r c before rest f g q hc hL e = insert-after-zeros u k t r c before rest (g .0) (g .1) q
-  insert-node (one-only t) u [] r c before rest f g q hc hL e = absurd f
-  insert-node (one-only t) u (false ∷ k) r c before rest f g q hc hL e = refl
-  insert-node (one-only t) u (true ∷ k) r c before rest f g q hc hL e =
-      insert-node t (true ∷ u) k r c (entry (suc (length u)) none ∷ before) rest f (g .1) q (omega arith) (omega arith) (depthRule-branching t _ c _ (g .0))
-  insert-node (fork a b) u [] r c before rest f g q hc hL e = absurd f
-  insert-node (fork a b) u (false ∷ k) r c before rest f g q hc hL e =
+      → NotHeld k t → Pruned t → KeysIn keyOf u t → c ≤ length u → trailing before ≤ length u → AtLeaf (max (trailing before) c ≡ length u) t
+      → insertInto keyOf (reverseAux u k) r (passed (length u) t k before, remaining (length u) t k c rest)
+      ≡ reverseAux before (write (length u) (insertTrie k r t) c rest)
+  insert-node (leaf k′ r′) u k r c before rest f g q hc hτ e = insert-at-leaf u k k′ r r′ c before rest f q e
+  insert-node (zero-only t) u [] r c before rest f g q hc hτ e = absurd f
+  insert-node (zero-only t) u (false ∷ k) r c before rest f g q hc hτ e =
+      insert-node t (false ∷ u) k r c before rest f (g .1) q (omega arith) (omega arith) (at-branching _ t (g .0))
+  insert-node (zero-only t) u (true ∷ k) r c before rest f g q hc hτ e = insert-after-zeros u k t r c before rest (g .0) (g .1) q
+  insert-node (one-only t) u [] r c before rest f g q hc hτ e = absurd f
+  insert-node (one-only t) u (false ∷ k) r c before rest f g q hc hτ e = refl
+  insert-node (one-only t) u (true ∷ k) r c before rest f g q hc hτ e =
+      insert-node t (true ∷ u) k r c (entry (suc (length u)) none ∷ before) rest f (g .1) q (omega arith) (omega arith) (at-branching _ t (g .0))
+  insert-node (fork a b) u [] r c before rest f g q hc hτ e = absurd f
+  insert-node (fork a b) u (false ∷ k) r c before rest f g q hc hτ e =
       insert-node a (false ∷ u) k r (suc (length u)) before (write (suc (length u)) b c rest) f (g .0) (q .0) (omega arith) (omega arith)
-      (depthRule a (trailing before) (suc (length u)) (suc (length u)) (omega arith))
-  insert-node (fork a b) u (true ∷ k) r c before rest f g q hc hL e =
-      insert-node b (true ∷ u) k r c (entry (suc (length u)) (some (lastRecord a)) ∷ passFront (suc (length u)) a before) rest f (g .1) (q .1) (omega arith) (omega arith)
-      (depthRule b (suc (length u)) c (suc (length u)) (omega arith))
+      (at-leaf _ a (omega arith))
+  insert-node (fork a b) u (true ∷ k) r c before rest f g q hc hτ e =
+      insert-node b (true ∷ u) k r c (entry (suc (length u)) (some (lastRecord a)) ∷ passFront (suc (length u)) a before) rest f (g .1) (q .1)
+      (omega arith) (omega arith)
+      (at-leaf _ b (omega arith))
       ∙ rewind a (suc (length u)) (suc (length u)) before (write (suc (length u)) (insertTrie k r b) c rest)

@@ -31,6 +31,13 @@ Branching (zero-only t) = Unit {0}
 Branching (one-only t) = Unit {0}
 Branching (fork a b) = Unit {0}
 
+-- By cases: a leaf, or a node with two keys.
+pub leaf-or-branching : (P : Trie → Type 0) → ((k : Key) (r : ℕ) → P (leaf k r)) → ((t : Trie) → Branching t → P t) → (t : Trie) → P t
+leaf-or-branching P f g (leaf k r) = f k r
+leaf-or-branching P f g (zero-only t) = g (zero-only t) tt
+leaf-or-branching P f g (one-only t) = g (one-only t) tt
+leaf-or-branching P f g (fork a b) = g (fork a b) tt
+
 -- A node with one child has at least two keys below it.
 abbrev pub Pruned : Trie → Type 0
 Pruned (leaf k r) = Unit {0}
@@ -64,12 +71,16 @@ Held [] r (fork a b) = ⊥
 Held (false ∷ k) r (fork a b) = Held k r a
 Held (true ∷ k) r (fork a b) = Held k r b
 
--- The records of the trie have the keys that it says; u is the path to it, its last bit first.
+-- P of every leaf's path, of the bits left of its key and of its record; u is the path to the trie, its last bit first.
+abbrev pub EachLeaf : (Key → Key → ℕ → Type 0) → Key → Trie → Type 0
+EachLeaf P u (leaf k r) = P u k r
+EachLeaf P u (zero-only t) = EachLeaf P (false ∷ u) t
+EachLeaf P u (one-only t) = EachLeaf P (true ∷ u) t
+EachLeaf P u (fork a b) = EachLeaf P (false ∷ u) a × EachLeaf P (true ∷ u) b
+
+-- The records of the trie have the keys that it says.
 abbrev pub KeysIn : (ℕ → Key) → Key → Trie → Type 0
-KeysIn keyOf u (leaf k r) = keyOf r ≡ reverseAux u k
-KeysIn keyOf u (zero-only t) = KeysIn keyOf (false ∷ u) t
-KeysIn keyOf u (one-only t) = KeysIn keyOf (true ∷ u) t
-KeysIn keyOf u (fork a b) = KeysIn keyOf (false ∷ u) a × KeysIn keyOf (true ∷ u) b
+KeysIn keyOf = EachLeaf (λ u k r. keyOf r ≡ reverseAux u k)
 
 -- Each key of the trie has n bits left.
 abbrev pub Sized : ℕ → Trie → Type 0
@@ -94,38 +105,33 @@ Reaches [] (fork a b) = ⊥
 Reaches (false ∷ k) (fork a b) = Reaches k a
 Reaches (true ∷ k) (fork a b) = Reaches k b
 
+-- P, asked of a leaf only.
+abbrev pub AtLeaf : Type 0 → Trie → Type 0
+AtLeaf P (leaf k r) = P
+AtLeaf P (zero-only t) = Unit {0}
+AtLeaf P (one-only t) = Unit {0}
+AtLeaf P (fork a b) = Unit {0}
+
+-- Where P holds.
+pub at-leaf : (P : Type 0) (t : Trie) → P → AtLeaf P t
+at-leaf P (leaf k r) h = h
+at-leaf P (zero-only t) h = tt
+at-leaf P (one-only t) h = tt
+at-leaf P (fork a b) h = tt
+
+-- Where there is no leaf.
+pub at-branching : (P : Type 0) (t : Trie) → Branching t → AtLeaf P t
+at-branching P (leaf k r) m = absurd m
+at-branching P (zero-only t) m = tt
+at-branching P (one-only t) m = tt
+at-branching P (fork a b) m = tt
+
 -- A fact of the trie, if there is one.
 abbrev pub Given : (Trie → Type 0) → Option Trie → Type 0
 Given P none = Unit {0}
 Given P (some t) = P t
 
--- A key that is not held has the bits that the way down asks for.
-pub notHeld-reaches : (t : Trie) (k : Key) → NotHeld k t → Reaches k t
-notHeld-reaches (leaf k′ r) k f = tt
-notHeld-reaches (zero-only t) [] f = f
-notHeld-reaches (zero-only t) (false ∷ k) f = notHeld-reaches t k f
-notHeld-reaches (zero-only t) (true ∷ k) f = tt
-notHeld-reaches (one-only t) [] f = f
-notHeld-reaches (one-only t) (false ∷ k) f = tt
-notHeld-reaches (one-only t) (true ∷ k) f = notHeld-reaches t k f
-notHeld-reaches (fork a b) [] f = f
-notHeld-reaches (fork a b) (false ∷ k) f = notHeld-reaches a k f
-notHeld-reaches (fork a b) (true ∷ k) f = notHeld-reaches b k f
-
--- So has a key that is held.
-pub held-reaches : (t : Trie) (k : Key) (r : ℕ) → Held k r t → Reaches k t
-held-reaches (leaf k′ r′) k r f = tt
-held-reaches (zero-only t) [] r f = f
-held-reaches (zero-only t) (false ∷ k) r f = held-reaches t k r f
-held-reaches (zero-only t) (true ∷ k) r f = tt
-held-reaches (one-only t) [] r f = f
-held-reaches (one-only t) (false ∷ k) r f = tt
-held-reaches (one-only t) (true ∷ k) r f = held-reaches t k r f
-held-reaches (fork a b) [] r f = f
-held-reaches (fork a b) (false ∷ k) r f = held-reaches a k r f
-held-reaches (fork a b) (true ∷ k) r f = held-reaches b k r f
-
--- So has a key of the trie's size.
+-- A key as long as those of the trie has the bits that the way down asks for.
 pub sized-reaches : (t : Trie) (n : ℕ) (k : Key) → Sized n t → length k ≡ n → Reaches k t
 sized-reaches (leaf k′ r) n k f h = tt
 sized-reaches (zero-only t) zero k f h = absurd f

@@ -13,8 +13,9 @@ use Rattle.leaf_list.specs.Trie.{Trie, write, trieOf, join, leaf, zero-o
 use Rattle.leaf_list.proofs.Bits.{zeroBits-length, below-zeroBits}
 use Rattle.leaf_list.proofs.Tries.{Branching, Given, NotHeld}
 use Rattle.leaf_list.proofs.TrieDeletion.{NonEmpty}
-use Rattle.leaf_list.proofs.TrieOf.{Lengths, Distinct, trieOf-notHeld, trieOf-suc, trieOf-nil, lengths-one, distinct-one, lengths-zero, distinct-zero}
-use Rattle.leaf_list.proofs.TrieChange.{insertOption, trieOf-insert, here, insertTrie-branching}
+use Rattle.leaf_list.proofs.Items.{Lengths, Distinct, lengths-one, distinct-one, lengths-zero, distinct-zero}
+use Rattle.leaf_list.proofs.TrieOf.{trieOf-notHeld, trieOf-suc, trieOf-nil}
+use Rattle.leaf_list.proofs.TrieChange.{insertOption, trieOf-insert, here, insertTrie-branching, trieOf-single}
 use Rattle.leaf_list.proofs.Stems.{boundingStems, boundingStems-suc, count-one, boundingStems-nil, boundingStem, count-zero, boundingStems-single, boundingStem-two, boundingStem-both}
 use Rattle.leaf_list.proofs.Intervals.{entriesAt, entriesAt-zero, entriesAt-middle, entriesAt-one, from-start}
 
@@ -24,7 +25,8 @@ writeOption l none c rest = entry c none ∷ rest
 writeOption l (some t) c rest = write l t c rest
 
 -- The trie with a first key.
-pub trieOf-cons : (n : ℕ) (k : Key) (r : ℕ) (s : List Item) → Lengths n (item k r ∷ s) → Distinct (item k r ∷ s) → trieOf n (item k r ∷ s) ≡ insertOption k r (trieOf n s)
+pub trieOf-cons : (n : ℕ) (k : Key) (r : ℕ) (s : List Item) → Lengths n (item k r ∷ s) → Distinct (item k r ∷ s)
+    → trieOf n (item k r ∷ s) ≡ insertOption k r (trieOf n s)
 trieOf-cons n k r s h d = trieOf-insert n k r s (item k r ∷ s) here (h .0) (h .1) (d .0)
 
 -- One bit further up, all keys on the 0-side.
@@ -59,7 +61,8 @@ trieOf-nonEmpty n (item k r ∷ s) h d q = rw (trieOf-cons n k r s h d) (insertO
 pub trieOf-branching : (n : ℕ) (s : List Item) → Lengths n s → Distinct s → 1 < length s → BranchingOption (trieOf n s)
 trieOf-branching n [] h d q = absurd (omega arith)
 trieOf-branching n (item k r ∷ s) h d q =
-    rw (trieOf-cons n k r s h d) (insertOption-branching k r (trieOf n s) (trieOf-nonEmpty n s (h .1) (d .1) (omega arith)) (trieOf-notHeld n k s (h .0) (h .1) (d .0)))
+    rw (trieOf-cons n k r s h d)
+    (insertOption-branching k r (trieOf n s) (trieOf-nonEmpty n s (h .1) (d .1) (omega arith)) (trieOf-notHeld n k s (h .0) (h .1) (d .0)))
 
 -- Both sides are there, or the 1-side with two keys.
 abbrev pub TwoSided : Option Trie → Option Trie → Type 0
@@ -67,7 +70,8 @@ TwoSided none b = BranchingOption b
 TwoSided (some a) b = NonEmpty b
 
 -- The entries of a node whose 1-side starts with a bounding node.
-pub writeOption-join : (a b : Option Trie) (l c : ℕ) (rest : List Entry) → TwoSided a b → writeOption (suc l) a (suc l) (writeOption (suc l) b c rest) ≡ writeOption l (join a b) c rest
+pub writeOption-join : (a b : Option Trie) (l c : ℕ) (rest : List Entry) → TwoSided a b
+    → writeOption (suc l) a (suc l) (writeOption (suc l) b c rest) ≡ writeOption l (join a b) c rest
 writeOption-join none none l c rest y = absurd y
 writeOption-join none (some (leaf k r)) l c rest y = absurd y
 writeOption-join none (some (zero-only t)) l c rest y = refl
@@ -81,40 +85,51 @@ pub twoSided : (a b : Option Trie) → NonEmpty a → NonEmpty b → TwoSided a 
 twoSided none b y z = absurd y
 twoSided (some a) b y z = z
 
+-- At a node of depth l with the keys s, the entries at the bounding nodes are those of the trie.
+abbrev pub SameEntries : ℕ → ℕ → List Item → ℕ → List Entry → Type 0
+SameEntries n l s c rest = entriesAt l s (zeroBits n) (boundingStems n s) c rest ≡ writeOption l (trieOf n s) c rest
+
 -- One bit of the twin, by which sides have keys.
 module _ (n l c : ℕ) (s : List Item) (rest : List Entry) (h : Lengths (suc n) s) (d : Distinct s)
-    (ihz : (c : ℕ) (rest : List Entry) → entriesAt (suc l) (zeroSide s) (zeroBits n) (boundingStems n (zeroSide s)) c rest ≡ writeOption (suc l) (trieOf n (zeroSide s)) c rest)
-    (iho : (c : ℕ) (rest : List Entry) → entriesAt (suc l) (oneSide s) (zeroBits n) (boundingStems n (oneSide s)) c rest ≡ writeOption (suc l) (trieOf n (oneSide s)) c rest) where
-  -- all go on with 0
-  twin-zero : oneSide s ≡ [] → entriesAt l s (zeroBits (suc n)) (boundingStems (suc n) s) c rest ≡ writeOption l (trieOf (suc n) s) c rest
+    (zero-side : (c : ℕ) (rest : List Entry) → SameEntries n (suc l) (zeroSide s) c rest)
+    (one-side : (c : ℕ) (rest : List Entry) → SameEntries n (suc l) (oneSide s) c rest) where
+  -- All keys go on with 0.
+  twin-zero : oneSide s ≡ [] → SameEntries (suc n) l s c rest
   twin-zero e =
-      rw (boundingStems-suc n s, trieOf-suc n s, count-one [] s, e, boundingStems-nil n, trieOf-nil n, append-nil) (entriesAt-zero n l c s (zeroBits n) (boundingStems n (zeroSide s)) rest h e ∙ ihz c rest ∙ writeOption-zero (trieOf n (zeroSide s)) l c rest)
+      rw (boundingStems-suc n s, trieOf-suc n s, count-one [] s, e, boundingStems-nil n, trieOf-nil n, append-nil)
+      (entriesAt-zero n l c s (zeroBits n) (boundingStems n (zeroSide s)) rest h e ∙ zero-side c rest ∙ writeOption-zero (trieOf n (zeroSide s)) l c rest)
 
-  -- the string 1 is boundingStem
-  twin-bounding : boundingStem s [] ≡ true → TwoSided (trieOf n (zeroSide s)) (trieOf n (oneSide s)) → entriesAt l s (zeroBits (suc n)) (boundingStems (suc n) s) c rest ≡ writeOption l (trieOf (suc n) s) c rest
+  -- The string 1 is bounding.
+  twin-bounding : boundingStem s [] ≡ true → TwoSided (trieOf n (zeroSide s)) (trieOf n (oneSide s)) → SameEntries (suc n) l s c rest
   twin-bounding e y =
       rw (boundingStems-suc n s, trieOf-suc n s, e)
       (entriesAt-middle n l c s (zeroBits n) (boundingStems n (zeroSide s)) (map (λ v. true ∷ v) (boundingStems n (oneSide s))) rest (zeroBits-length n)
-      ∙ ap (entriesAt (suc l) (zeroSide s) (zeroBits n) (boundingStems n (zeroSide s)) (suc l)) (entriesAt-one n l c s (zeroBits n) (boundingStems n (oneSide s)) rest h ∙ iho c rest)
-      ∙ ihz (suc l) (writeOption (suc l) (trieOf n (oneSide s)) c rest)
+      ∙ ap (entriesAt (suc l) (zeroSide s) (zeroBits n) (boundingStems n (zeroSide s)) (suc l))
+      (entriesAt-one n l c s (zeroBits n) (boundingStems n (oneSide s)) rest h ∙ one-side c rest)
+      ∙ zero-side (suc l) (writeOption (suc l) (trieOf n (oneSide s)) c rest)
       ∙ writeOption-join (trieOf n (zeroSide s)) (trieOf n (oneSide s)) l c rest y)
 
-  -- leaf keyOf, that goes on with 1
-  twin-single : (k : Key) (r : ℕ) → zeroSide s ≡ [] → oneSide s ≡ item k r ∷ [] → entriesAt l s (zeroBits (suc n)) (boundingStems (suc n) s) c rest ≡ writeOption l (trieOf (suc n) s) c rest
+  -- There is one key, and it goes on with 1.
+  twin-single : (k : Key) (r : ℕ) → zeroSide s ≡ [] → oneSide s ≡ item k r ∷ [] → SameEntries (suc n) l s c rest
   twin-single k r ez eo =
       let q : Lengths n (item k r ∷ []) = rw eo at (lengths-one n s h) in
       rw (boundingStems-suc n s, trieOf-suc n s, count-one [] s, count-zero [] s, ez, eo, boundingStems-nil n, boundingStems-single n k r, trieOf-nil n)
-      (rw (from-start n s h ez, eo, below-zeroBits k n, trieOf-cons n k r [] q (tt, tt), trieOf-nil n))
+      (rw (from-start n s h ez, eo, below-zeroBits k n, trieOf-single n k r (q .0)))
 
-  twin-sides : (z o : List Item) → zeroSide s ≡ z → oneSide s ≡ o → entriesAt l s (zeroBits (suc n)) (boundingStems (suc n) s) c rest ≡ writeOption l (trieOf (suc n) s) c rest
+  -- In each case.
+  twin-sides : (z o : List Item) → zeroSide s ≡ z → oneSide s ≡ o → SameEntries (suc n) l s c rest
   twin-sides z [] ez eo = twin-zero eo
   twin-sides [] (item k r ∷ []) ez eo = twin-single k r ez eo
-  twin-sides [] (x ∷ y ∷ o) ez eo = twin-bounding (boundingStem-two s (rw eo (omega arith))) (rw (ez, trieOf-nil n) (trieOf-branching n (oneSide s) (lengths-one n s h) (distinct-one s d) (rw eo (omega arith))))
-  twin-sides (x ∷ z) (y ∷ o) ez eo = twin-bounding (boundingStem-both s (rw eo (omega arith)) (rw ez (omega arith))) (twoSided (trieOf n (zeroSide s)) (trieOf n (oneSide s)) (trieOf-nonEmpty n (zeroSide s) (lengths-zero n s h) (distinct-zero s d) (rw ez (omega arith)))
+  twin-sides [] (x ∷ y ∷ o) ez eo =
+      twin-bounding (boundingStem-two s (rw eo (omega arith)))
+      (rw (ez, trieOf-nil n) (trieOf-branching n (oneSide s) (lengths-one n s h) (distinct-one s d) (rw eo (omega arith))))
+  twin-sides (x ∷ z) (y ∷ o) ez eo =
+      twin-bounding (boundingStem-both s (rw eo (omega arith)) (rw ez (omega arith)))
+      (twoSided (trieOf n (zeroSide s)) (trieOf n (oneSide s)) (trieOf-nonEmpty n (zeroSide s) (lengths-zero n s h) (distinct-zero s d) (rw ez (omega arith)))
       (trieOf-nonEmpty n (oneSide s) (lengths-one n s h) (distinct-one s d) (rw eo (omega arith))))
 
 -- The entries at the bounding nodes are those of the trie, below every node.
-pub twin-node : (n l c : ℕ) (s : List Item) (rest : List Entry) → Lengths n s → Distinct s → entriesAt l s (zeroBits n) (boundingStems n s) c rest ≡ writeOption l (trieOf n s) c rest
+pub twin-node : (n l c : ℕ) (s : List Item) (rest : List Entry) → Lengths n s → Distinct s → SameEntries n l s c rest
 twin-node zero l c [] rest h d = refl
 twin-node zero l c (item [] r ∷ s) rest h d = refl
 twin-node zero l c (item (x ∷ k) r ∷ s) rest h d = absurd (omega (arith, h .0))

@@ -8,9 +8,10 @@ use native.Mathlib.Omega.{arith}
 use lib.Dec.{leb}
 use lib.ListN.{length, length-append}
 use borrow.Author.Tests.{leb-true, leb-false, le-leb, lt-leb}
+use Rattle.leaf_list.proofs.Lists.{all-append}
 use Rattle.page_tree.specs.Rows.{All, concat, Closed, lastDepth, Page}
 use Rattle.page_tree.specs.Cutting.{split, cut, parts}
-use Rattle.page_tree.proofs.ListLaws.{all-append, all-left, all-right, concat-append}
+use Rattle.page_tree.proofs.ListLaws.{all-left, all-right, concat-append}
 use Rattle.page_tree.proofs.ClosedRows.{closed-last, closed-append, closed-deeper, closed-page}
 use Rattle.page_tree.proofs.Splitting.{split-shallowest, split-closed, split-join, split-sizes}
 

@@ -11,7 +11,7 @@ use Rattle.leaf_list.specs.Keys.{Key}
 use Rattle.leaf_list.specs.Entries.{Entry, entry, pointerOf}
 use Rattle.leaf_list.specs.Search.{Place, positions, search, pointerAt}
 use Rattle.leaf_list.specs.Insertion.{trailing}
-use Rattle.leaf_list.proofs.Positions.{Beyond, Rising, beyond-less}
+use Rattle.leaf_list.proofs.Positions.{Beyond, Rising}
 use Rattle.page_tree.specs.Rows.{flats, Closed}
 use Rattle.page_tree.specs.Tree.{Node, depth, leaves, Sound, Tree, leavesOf, SoundTree}
 use Rattle.page_tree.specs.Walk.{rest}

@@ -6,17 +6,12 @@ use native.Mathlib.Omega.{arith}
 use lib.ListN.{length}
 use Rattle.page_tree.specs.Rows.{All, concat, flats, sum}
 
--- What holds of each of two lists holds of the joined list.
-pub all-append : {A : Type 0} (P : A → Type 0) (xs ys : List A) → All P xs → All P ys → All P (xs ++ ys)
-all-append P [] ys h g = g
-all-append P (x ∷ xs) ys h g = (h .0, all-append P xs ys (h .1) g)
-
--- And back: the first list,
+-- What holds of each of a joined list holds of the first list,
 pub all-left : {A : Type 0} (P : A → Type 0) (xs ys : List A) → All P (xs ++ ys) → All P xs
 all-left P [] ys h = tt
 all-left P (x ∷ xs) ys h = (h .0, all-left P xs ys (h .1))
 
--- the second list.
+-- and of the second.
 pub all-right : {A : Type 0} (P : A → Type 0) (xs ys : List A) → All P (xs ++ ys) → All P ys
 all-right P [] ys h = h
 all-right P (x ∷ xs) ys h = all-right P xs ys (h .1)

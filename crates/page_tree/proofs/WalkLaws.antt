@@ -6,9 +6,14 @@ use Prim.Native.Nat.{ℕ, _≤_, _<_}
 use native.Mathlib.Omega.{arith}
 use lib.Dec.{ltb, eqb}
 use borrow.Author.Tests.{ltb-true, ltb-false, lt-ltb, le-ltb, ne-eqb}
-use Rattle.leaf_list.proofs.Positions.{Beyond, Rising, beyond-less}
+use Rattle.leaf_list.proofs.Lists.{all-weaker}
+use Rattle.leaf_list.proofs.Positions.{Beyond, Rising}
 use Rattle.page_tree.specs.Rows.{All, flats, Closed}
 use Rattle.page_tree.specs.Walk.{rest, walk}
+
+-- Positions past more are past less.
+pub beyond-less : (c d : ℕ) (bs : List ℕ) → c ≤ d → Beyond d bs → Beyond c bs
+beyond-less c d bs h = all-weaker (λ b. d < b) (λ b. c < b) bs (λ b g. omega arith)
 
 -- The positions left after an entry still rise,
 pub rest-rising : (d b : ℕ) (bs : List ℕ) → Rising (b ∷ bs) → Rising (rest d b bs)

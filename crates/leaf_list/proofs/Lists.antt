@@ -1,0 +1,29 @@
+-- Facts that every element of a list has. Assumes nothing.
+use mathlib.Core.Path.{subst, sym}
+use mathlib.Core.List.{List, [], _∷_, _++_, map, List·Memᴰ, List·Memᴰ·head, List·Memᴰ·tail}
+
+-- P of every element.
+abbrev pub All : {A : Type 0} → (A → Type 0) → List A → Type 0
+All P [] = Unit {0}
+All P (x ∷ xs) = P x × All P xs
+
+module _ {A : Type 0} where
+  -- Two lists in a row.
+  pub all-append : (P : A → Type 0) (xs ys : List A) → All P xs → All P ys → All P (xs ++ ys)
+  all-append P [] ys h g = g
+  all-append P (x ∷ xs) ys h g = (h .0, all-append P xs ys (h .1) g)
+
+  -- A weaker fact.
+  pub all-weaker : (P Q : A → Type 0) (xs : List A) → ((x : A) → P x → Q x) → All P xs → All Q xs
+  all-weaker P Q [] f h = tt
+  all-weaker P Q (x ∷ xs) f h = (f x (h .0), all-weaker P Q xs f (h .1))
+
+  -- The elements of a mapped list.
+  pub all-map : {B : Type 0} (P : B → Type 0) (f : A → B) (xs : List A) → All (λ x. P (f x)) xs → All P (map f xs)
+  all-map P f [] h = tt
+  all-map P f (x ∷ xs) h = (h .0, all-map P f xs (h .1))
+
+  -- A member has it.
+  pub all-member : (P : A → Type 0) {x : A} {xs : List A} → List·Memᴰ x xs → All P xs → P x
+  all-member P (List·Memᴰ·head e) h = subst P (sym e) (h .0)
+  all-member P (List·Memᴰ·tail m) h = all-member P m (h .1)
