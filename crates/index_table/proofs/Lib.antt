@@ -6,3 +6,5 @@ pub mod PageReads
 pub mod PageCounts
 pub mod Frames
 pub mod SoundNodes
+pub mod HeaderLaws
+pub mod Writing
