@@ -51,8 +51,8 @@ module _ {A : Type 0} where
       rw (sets-eq vs l i f, append-assoc (take i l) vs (drop (i + length vs) l), drop-at (take i l) (vs ++ drop (i + length vs) l) i t)
       (take-at vs (drop (i + length vs) l) n e)
 
-  -- A part is cut off before or behind what follows it.
-  take-drop : (j n : ℕ) (l : List A) → take n (drop j l) ≡ drop j (take (j + n) l)
+  -- A part of a list, cut off in either order.
+  pub take-drop : (j n : ℕ) (l : List A) → take n (drop j l) ≡ drop j (take (j + n) l)
   take-drop zero n l = ap (λ (k : ℕ). take k l) (let e : n ≡ 0 + n = omega arith in e)
   take-drop (suc j) n [] = take-nil n ∙ sym (ap (drop (suc j)) (take-nil (suc j + n)))
   take-drop (suc j) n (x ∷ l) = take-drop j n l ∙ ap (λ (k : ℕ). drop (suc j) (take k (x ∷ l))) (let e : suc (j + n) ≡ suc j + n = omega arith in e)
