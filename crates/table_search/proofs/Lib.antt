@@ -1,2 +1,3 @@
 pub mod NextPositions
 pub mod Stops
+pub mod Descents

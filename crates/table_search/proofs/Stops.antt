@@ -40,11 +40,11 @@ pub record Seeking (w key b₀ τ : ℕ) (row : List Ref) (b t i : ℕ) : Type 0
   pub passes : Passes depthOf (leftFrom w key b₀) (take i row)
   pub left : positionsAfter depthOf (leftFrom w key b₀) (take i row) ≡ leftFrom w key b
   pub trail : lastDepth depthOf τ (take i row) ≡ t
-  pub low : 0 < b
+  pub rise : b₀ ≤ b
   pub high : b ≤ w + 1
 
-pub seeking-start : (w key b τ : ℕ) (row : List Ref) → 1 ≤ length row → 0 < b → b ≤ w + 1 → Seeking w key b τ row b τ 0
-seeking-start w key b τ row h l g = record { inside = omega arith; passes = tt; left = refl; trail = refl; low = l; high = g }
+pub seeking-start : (w key b τ : ℕ) (row : List Ref) → 1 ≤ length row → b ≤ w + 1 → Seeking w key b τ row b τ 0
+seeking-start w key b τ row h g = record { inside = omega arith; passes = tt; left = refl; trail = refl; rise = omega arith; high = g }
 
 pub seeking-more : (w key b₀ τ : ℕ) (row : List Ref) (b t i d b′ : ℕ) → Seeking w key b₀ τ row b t i → i + 1 < length row → d ≡ getD row i (0, 0) .0 → b ≤ d
     → Passed w key b d b′ → Seeking w key b₀ τ row b′ d (i + 1)
@@ -57,26 +57,26 @@ seeking-more w key b₀ τ row b t i d b′ s h e l p =
       passes = rw m (r .0);
       left = rw m (r .1 ∙ subst (λ (x : ℕ). rest x b (later w key b) ≡ leftFrom w key b′) e (p .left));
       trail = rw m (last-snoc τ (take i row) y ∙ sym e);
-      low = p .low;
+      rise = omega (arith, s .rise, p .rise);
       high = p .high;
     }
 
 pub seeking-stop : (w key b₀ τ : ℕ) (row : List Ref) (b t i d : ℕ) → Seeking w key b₀ τ row b t i → d ≡ getD row i (0, 0) .0 → d < b
     → Stopped w key b₀ τ row (record { at = i; position = b; trail = t })
 seeking-stop w key b₀ τ row b t i d s e h =
-    record { inside = s .inside; passes = s .passes; left = s .left; trail = s .trail; low = s .low; high = s .high; stops = inr (omega arith) }
+    record { inside = s .inside; passes = s .passes; left = s .left; trail = s .trail; rise = s .rise; high = s .high; stops = inr (omega arith) }
 
 pub seeking-end : (w key b₀ τ : ℕ) (row : List Ref) (b t i n : ℕ) → Seeking w key b₀ τ row b t i → n ≡ length row → n ≤ i + 1
     → Stopped w key b₀ τ row (record { at = i; position = b; trail = t })
 seeking-end w key b₀ τ row b t i n s e h =
-    record { inside = s .inside; passes = s .passes; left = s .left; trail = s .trail; low = s .low; high = s .high; stops = inl (omega (arith, s .inside)) }
+    record { inside = s .inside; passes = s .passes; left = s .left; trail = s .trail; rise = s .rise; high = s .high; stops = inl (omega (arith, s .inside)) }
 
 -- What a passed entry leaves of the positions.
-pub passed-kept : (w key b d : ℕ) → (d ≡ b → ⊥) → 0 < b → b ≤ w + 1 → Passed w key b d b
-passed-kept w key b d h l g = record { left = rw (ne-eqb d b h); low = l; high = g }
+pub passed-kept : (w key b d : ℕ) → (d ≡ b → ⊥) → b ≤ w + 1 → Passed w key b d b
+passed-kept w key b d h g = record { left = rw (ne-eqb d b h); rise = omega arith; high = g }
 
 pub passed-next : (w key b d r : ℕ) → d ≡ b → b ≤ w → NextPosition w key b r → Passed w key b d r
-passed-next w key b d r e h p = record { left = rw (eq-eqb d b e, le-leb b w h) (p .left); low = omega (arith, p .above); high = p .within }
+passed-next w key b d r e h p = record { left = rw (eq-eqb d b e, le-leb b w h) (p .left); rise = omega (arith, p .above); high = p .within }
 
 -- What holds of every entry of a row holds of each.
 pub all-at : (P : Ref → Type 0) (row : List Ref) (i : ℕ) → i < length row → All P row → P (getD row i (0, 0))

@@ -8,13 +8,15 @@ use lib.Dec.{leb}
 use lib.ListN.{length, getD, take, drop}
 use Rattle.leaf_list.specs.Keys.{bits}
 use Rattle.leaf_list.specs.Search.{positions}
-use Rattle.leaf_list.specs.Entries.{entry}
+use Rattle.leaf_list.specs.Entries.{entry, depthOf as entryDepth}
 use Rattle.page_tree.specs.Rows.{All, lastDepth}
+use Rattle.page_tree.specs.Tree.{leaves}
 use Rattle.page_tree.specs.Walk.{rest}
 use Rattle.page_tree.specs.Finding.{findBelow}
 use Rattle.page_tree.proofs.WalkPlaces.{Passes, positionsAfter}
-use Rattle.index_table.specs.Layout.{Ref, Within, layoutOf}
+use Rattle.index_table.specs.Layout.{Ref, Within, layoutOf, pageStart}
 use Rattle.index_table.specs.Pages.{Pages, pagesAt, nodeAt, recordOf}
+use Rattle.index_table.specs.Soundness.{SoundBelow}
 use Rattle.table_search.specs.declared.Spot.{Spot}
 use Rattle.table_search.specs.declared.Leaf.{Leaf}
 
@@ -35,7 +37,7 @@ pub record NextPosition (w key p r : ℕ) : Type 0 where
 -- The next position once an entry of depth d was passed at the position b.
 pub record Passed (w key b d r : ℕ) : Type 0 where
   pub left : rest d b (later w key b) ≡ leftFrom w key r
-  pub low : 0 < r
+  pub rise : b ≤ r
   pub high : r ≤ w + 1
 
 -- The depth of a stored entry.
@@ -50,7 +52,6 @@ pub record SeekPre (b : List ℕ) (e page w key position : ℕ) : Type 0 where
   pub depths : All (λ x. x .0 ≤ w) (pagesAt (layoutOf e) b page)
   pub width : w ≤ 64
   pub narrow : key < 2 ^ w
-  pub low : 0 < position
   pub high : position ≤ w + 1
 
 -- The place where figure 6 stops in a page's row, begun with the position b and the depth τ before: the entries before it are passed, and it is
@@ -60,11 +61,24 @@ pub record Stopped (w key b τ : ℕ) (row : List Ref) (r : Spot) : Type 0 where
   pub passes : Passes depthOf (leftFrom w key b) (take (r .at) row)
   pub left : positionsAfter depthOf (leftFrom w key b) (take (r .at) row) ≡ leftFrom w key (r .position)
   pub trail : lastDepth depthOf τ (take (r .at) row) ≡ r .trail
-  pub low : 0 < r .position
+  pub rise : b ≤ r .position
   pub high : r .position ≤ w + 1
   pub stops : (suc (r .at) ≡ length row) ⊎ (depthOf (getD row (r .at) (0, 0)) < r .position)
 
--- The entry that figure 6 finds below a page, with the positions left and the depth before it.
-pub record Descended (w key b τ n : ℕ) (pages : Pages) (x : Ref) (r : Leaf) : Type 0 where
-  pub found : findBelow n (leftFrom w key b) τ (nodeAt 65535 n pages x) ≡ (leftFrom w key (r .position), r .trail, entry (r .depth) (recordOf 65535 (r .pointer)))
+-- A sound page of level n whose last depth, closing, is before the position: figure 6 stops in it.
+pub record DescendPre (b : List ℕ) (e P n page w key position : ℕ) : Type 0 where
+  pub closing : ℕ
+  pub sound : SoundBelow (layoutOf e) P (suc n) b (closing, page)
+  pub before : closing < position
+  pub table : pageStart (layoutOf e) P ≤ length b
+  pub depths : All (λ x. entryDepth x ≤ w) (leaves (suc n) (nodeAt 65535 (suc n) (pagesAt (layoutOf e) b) (closing, page)))
+  pub width : w ≤ 64
+  pub narrow : key < 2 ^ w
+  pub high : position ≤ w + 1
+
+-- The entry that figure 6 finds below a page of level n, with the positions left and the depth before it.
+pub record Descended (w key position τ n : ℕ) (pages : Pages) (page : ℕ) (r : Leaf) : Type 0 where
+  pub found :
+      findBelow (suc n) (leftFrom w key position) τ (nodeAt 65535 (suc n) pages (0, page))
+      ≡ (leftFrom w key (r .position), r .trail, entry (r .depth) (recordOf 65535 (r .pointer)))
   pub pointer-high : r .pointer ≤ 65535

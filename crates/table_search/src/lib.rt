@@ -4,10 +4,12 @@ ghost use Prim.Native.Nat.{_+_, _-_, _%_, _^_, _≤_, _<_};
 ghost use lib.ListN.{length};
 ghost use Rattle.index_table.specs.Layout.{Within, layoutOf, Ref};
 ghost use Rattle.index_table.specs.Pages.{pagesAt};
-ghost use Rattle.table_search.specs.Places.{NextPosition, Passed, SeekPre, Stopped, Descended};
+ghost use Rattle.table_search.specs.Places.{NextPosition, Passed, SeekPre, Stopped, DescendPre, Descended};
 use index_table::layout::PageNo;
+use index_table::layout::child;
 use index_table::layout::count;
 use index_table::layout::depth;
+use index_table::layout::pointer;
 use index_table::layout::wide;
 
 // A place in a page: the entry, the next position, and the depth before the entry.
@@ -79,7 +81,7 @@ pub fn seek(index: &[u8], e: u8, page: PageNo, w: u64, key: u64, position: u64, 
 
 // The next position once an entry of depth d at or below position b was passed.
 fn passed_position(w: u64, key: u64, b: u64, d: u64) -> u64
-    requires { ⌜ (w ≤ 64) × (key < 2 ^ w) × (0 < b) × (b ≤ w + 1) × (d ≤ w) ⌝ }
+    requires { ⌜ (w ≤ 64) × (key < 2 ^ w) × (b ≤ w + 1) × (d ≤ w) ⌝ }
     ensures { λ r. ⌜ Passed w key b d r ⌝ }
 {
     if d != b {
@@ -92,4 +94,43 @@ fn deep(x: u8) -> u64
     ensures { λ r. ⌜ r ≡ x ⌝ }
 {
     x as u64
+}
+
+// From a page of a level down to the entry that figure 6 finds. The position list is carried on by its next position, and the depth before with it.
+pub fn descend(
+    index: &[u8],
+    e: u8,
+    pages: u16,
+    level: u8,
+    page: PageNo,
+    w: u64,
+    key: u64,
+    position: u64,
+    trail: u64,
+) -> Leaf
+    requires { ⌜ DescendPre (now index) e pages level (page .0) w key position ⌝ }
+    ensures { λ r. ⌜ Descended w key position trail level (pagesAt (layoutOf e) (now (index .entry))) (page .0) r ⌝ }
+{
+    let s = seek(index, e, page, w, key, position, trail);
+    let at = s.at;
+    if level == 0 {
+        return Leaf {
+            depth: deep(depth(index, e, page, at)),
+            pointer: pointer(index, e, page, at),
+            position: s.position,
+            trail: s.trail,
+        };
+    }
+    let below = child(index, e, page, at);
+    descend(
+        index,
+        e,
+        pages,
+        level - 1,
+        below,
+        w,
+        key,
+        s.position,
+        s.trail,
+    )
 }

@@ -7,7 +7,7 @@ use Rattle.table_search.proofs.passed_position.Statement.{statement}
 use Rattle.table_search.proofs.passed_position.Tie as tie
 
 returns : tie.Need-returns
-returns c = passed-kept _ _ _ _ (c .if1 .taken) (c .before .pre .2) (c .before .pre .3)
+returns c = passed-kept _ _ _ _ (c .if1 .taken) (c .before .pre .2)
 
 next-position-requires : tie.Need-next-position-requires
 next-position-requires c κs = search needs

@@ -26,7 +26,7 @@ wide-requires c κs = search needs
 loop-holds : tie.Need-loop-holds Inv-loop μ-loop
 loop-holds c = (
   c .wide .ensures .0 ∙ c .before .count .ensures ∙ sym (length-refs _ _),
-  seeking-start _ _ _ _ _ (c .before .before .before .pre .some) (c .before .before .before .pre .low) (c .before .before .before .pre .high),
+  seeking-start _ _ _ _ _ (c .before .before .before .pre .some) (c .before .before .before .pre .high),
 )
 
 add-loop : tie.Need-add-loop Inv-loop μ-loop
@@ -50,7 +50,6 @@ passed-position-requires c κs =
     let pre = at .before .before .before .before .pre in (
       pre .width,
       pre .narrow,
-      at .loop .inv .1 .low,
       at .loop .inv .1 .high,
       depth-low _ _ pre (at .loop .inv .1 .inside) (c .before .deep .ensures ∙ c .before .before .depth .ensures),
     )
