@@ -4,13 +4,12 @@ use mathlib.Core.List.{List, [], _∷_, _++_, append-assoc, append-nil, foldr, f
 use Prim.Native.Nat.{ℕ, zero, suc}
 use Rattle.leaf_list.specs.Entries.{Entry, entry}
 use Rattle.leaf_list.proofs.Positions.{Beyond, Rising}
-use Rattle.page_tree.specs.declared.Unwind.{Unwind}
 use Rattle.page_tree.specs.declared.Unwind.the-variants.{Idle}
-use Rattle.page_tree.specs.Rows.{concat, flats}
-use Rattle.page_tree.specs.Tree.{Node, depth, leaves, Sound, Tree, leavesOf, SoundTree}
+use Rattle.page_tree.specs.Rows.{flats}
+use Rattle.page_tree.specs.Tree.{Node, depth, leaves, Sound}
 use Rattle.page_tree.specs.Walk.{walk}
-use Rattle.page_tree.specs.OffPages.{Left, Step, stepEntry, over, sweep, unlessEmpty, stepBelow, nextDepth, strike, strikeIn, deleteBelow, lower, rooted, deleteTree}
-use Rattle.page_tree.proofs.ListLaws.{flats-append, flats-concat, flats-single}
+use Rattle.page_tree.specs.OffPages.{Left, Step, stepEntry, over, sweep, unlessEmpty, stepBelow, nextDepth, strike, strikeIn, deleteBelow}
+use Rattle.page_tree.proofs.ListLaws.{flats-append, flats-single}
 use Rattle.page_tree.proofs.WalkLaws.{walk-stop, walk-flats}
 use Rattle.page_tree.proofs.TreeLaws.{closed-leaves}
 

@@ -1,9 +1,8 @@
 -- Deletion from a whole tree (01, "while the root is above level 0 with one entry, its child becomes root"). Assumes nothing.
 use mathlib.Core.Path.{_≡_, refl, ap, sym, _∙_}
 use mathlib.Core.List.{List, [], _∷_, append-nil}
-use Prim.Native.Nat.{ℕ, zero, suc, _≤_}
+use Prim.Native.Nat.{ℕ, zero, suc}
 use native.Mathlib.Omega.{arith}
-use lib.ListN.{length}
 use Rattle.leaf_list.specs.Entries.{Entry}
 use Rattle.leaf_list.proofs.Positions.{Beyond, Rising}
 use Rattle.leaf_list.proofs.Depths.{Neighbours}

@@ -1,15 +1,13 @@
 -- Figure 6 level by level finds what figure 6 finds on level 0 (01, "A walk goes from the root down"). Assumes nothing.
 use mathlib.Core.Path.{_≡_, refl, ap, sym, _∙_}
 use mathlib.Core.Bool.{Bool, true, false, cond}
-use mathlib.Core.Option.{none}
 use mathlib.Core.List.{List, [], _∷_, _++_, append-nil}
-use Prim.Native.Nat.{ℕ, zero, suc, _<_}
+use Prim.Native.Nat.{ℕ, zero, suc}
 use native.Mathlib.Omega.{arith}
-use lib.Dec.{ltb, eqb}
+use lib.Dec.{ltb}
 use borrow.Author.Tests.{lt-ltb}
-use Rattle.leaf_list.specs.Keys.{Key}
-use Rattle.leaf_list.specs.Entries.{Entry, entry, pointerOf}
-use Rattle.leaf_list.specs.Search.{Place, positions, search, pointerAt}
+use Rattle.leaf_list.specs.Entries.{Entry, entry}
+use Rattle.leaf_list.specs.Search.{Place, search}
 use Rattle.leaf_list.specs.Insertion.{trailing}
 use Rattle.leaf_list.proofs.Positions.{Beyond, Rising}
 use Rattle.page_tree.specs.Rows.{flats, Closed}

@@ -7,7 +7,7 @@ use Prim.Native.Nat.{ℕ, _+_, _<_, _≤_}
 use native.Mathlib.Omega.{arith}
 use lib.Dec.{ltb}
 use lib.ListN.{length}
-use borrow.Author.Tests.{ltb-true, ltb-false}
+use borrow.Author.Tests.{ltb-true}
 use Rattle.leaf_list.specs.Keys.{Key, below, firstDifference}
 use Rattle.leaf_list.specs.Entries.{Entry, entry}
 use Rattle.leaf_list.specs.Search.{Place, positions, search}
@@ -15,7 +15,7 @@ use Rattle.leaf_list.specs.Insertion.{trailing, leafDepth, dummies, bothLeaves,
 use Rattle.leaf_list.proofs.TrieInsertion.{leafDepth-max}
 use Rattle.leaf_list.proofs.FoundEntry.{FoundOther}
 use Rattle.leaf_list.proofs.InsertionCount.{insertAt-length}
-use Rattle.page_tree.specs.Rows.{All, Closed}
+use Rattle.page_tree.specs.Rows.{Closed}
 use Rattle.page_tree.specs.Tree.{depth}
 use Rattle.page_tree.specs.Walk.{rest}
 use Rattle.page_tree.specs.Finding.{Found}

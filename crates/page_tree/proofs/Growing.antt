@@ -10,7 +10,7 @@ use Rattle.page_tree.specs.Tree.{Node, depth, leaves, Sound, pageCount, 
 use Rattle.page_tree.specs.Cutting.{parts}
 use Rattle.page_tree.specs.OnPages.{grow, grown}
 use Rattle.page_tree.proofs.ListLaws.{flats-concat, sum-concat}
-use Rattle.page_tree.proofs.CuttingLaws.{cut-join, cut-all, cut-few, cut-cases, WellCut, parts-cut}
+use Rattle.page_tree.proofs.CuttingLaws.{cut-join, cut-all, cut-few, cut-cases, parts-cut}
 
 -- Pages of sound things are sound.
 pub sound-pages : (E n : ℕ) (xs : List (Node (suc n))) → All (Page (depth n) E) xs → All (All (Sound E n)) xs → All (Sound E (suc n)) xs

@@ -2,9 +2,8 @@
 use mathlib.Core.Path.{_≡_, refl, ap, sym, _∙_}
 use mathlib.Core.Option.{none, some}
 use mathlib.Core.List.{List, [], _∷_}
-use Prim.Native.Nat.{ℕ, suc, _+_, _≤_, _<_, _^_}
+use Prim.Native.Nat.{ℕ, suc, _≤_, _<_, _^_}
 use native.Mathlib.Omega.{arith}
-use lib.ListN.{length}
 use Rattle.leaf_list.specs.Keys.{Key, bits}
 use Rattle.leaf_list.specs.Entries.{Entry, entry, pointerOf}
 use Rattle.leaf_list.specs.Herd.{Herd, Narrow, Sorted, KeysOf, lookup, add, remove}
@@ -14,10 +13,10 @@ use Rattle.leaf_list.proofs.Bits.{bits-length}
 use Rattle.leaf_list.proofs.Positions.{Beyond, positions-beyond, positions-rise}
 use Rattle.leaf_list.proofs.Laws.{find-law, insertion-law, found-law, deletion-law, closed-law, neighbours-law}
 use Rattle.page_tree.specs.Rows.{Closed, lastDepth}
-use Rattle.page_tree.specs.Tree.{Node, depth, leaves, Tree, leavesOf, SoundTree, RootRule}
-use Rattle.page_tree.specs.Finding.{findFlat, findIn}
-use Rattle.page_tree.specs.OnPages.{newEntries, replaceIn, insertBelow, insertTree, onTree}
-use Rattle.page_tree.specs.OffPages.{deleteTree, offTree}
+use Rattle.page_tree.specs.Tree.{depth, Tree, leavesOf, SoundTree, RootRule}
+use Rattle.page_tree.specs.Finding.{findIn}
+use Rattle.page_tree.specs.OnPages.{newEntries, replaceIn, onTree}
+use Rattle.page_tree.specs.OffPages.{offTree}
 use Rattle.page_tree.proofs.ClosedRows.{closed-last}
 use Rattle.page_tree.proofs.TreeLaws.{closed-leaves}
 use Rattle.page_tree.proofs.FindingLaws.{FoundAt, findIn-leaves, findFlat-search}

@@ -2,16 +2,15 @@
 use mathlib.Core.Path.{_≡_}
 use mathlib.Core.Logic.{_⊎_, inl, inr}
 use mathlib.Core.List.{List, [], _∷_}
-use Prim.Native.Nat.{ℕ, zero, suc, _+_, _-_, _≤_}
+use Prim.Native.Nat.{ℕ, zero, suc, _+_, _≤_}
 use native.Mathlib.Omega.{arith}
 use lib.ListN.{length}
 use Rattle.leaf_list.proofs.Positions.{Beyond, Rising}
-use Rattle.page_tree.specs.Tree.{Node, depth, Sound, Tree, leavesOf, SoundTree, RootRule}
+use Rattle.page_tree.specs.Tree.{Node, depth, Sound, Tree, SoundTree, RootRule}
 use Rattle.page_tree.specs.Cutting.{parts}
-use Rattle.page_tree.specs.Finding.{Found, findFlat, findBelow, findIn}
+use Rattle.page_tree.specs.Finding.{Found, findBelow, findIn}
 use Rattle.page_tree.specs.OnPages.{Replacement, replaceIn, insertBelow, grown, insertTree}
 use Rattle.page_tree.proofs.CuttingLaws.{cut-few, cut-cases}
-use Rattle.page_tree.proofs.FindingLaws.{findIn-leaves}
 use Rattle.page_tree.proofs.Replacing.{InPlace, replaceIn-inPlace}
 use Rattle.page_tree.proofs.Growing.{parts-sound, grow-sound}
 

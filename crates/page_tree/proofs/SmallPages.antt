@@ -1,13 +1,13 @@
 -- P10 and both sides of rows 7 and 8 (01, "Small herds, W 8" and "When a call is declined"), of the definitions. Assumes nothing.
 use mathlib.Core.Path.{_≡_, refl}
 use mathlib.Core.Bool.{cond}
-use mathlib.Core.Option.{Option, none, some}
-use mathlib.Core.List.{List, [], _∷_}
-use Prim.Native.Nat.{ℕ, zero, suc}
+use mathlib.Core.Option.{none, some}
+use mathlib.Core.List.{[], _∷_}
+use Prim.Native.Nat.{ℕ}
 use lib.Dec.{eqb}
 use lib.ListN.{getD}
-use Rattle.leaf_list.specs.Entries.{Entry, entry}
-use Rattle.page_tree.specs.Tree.{Node, Tree, pagesOf}
+use Rattle.leaf_list.specs.Entries.{entry}
+use Rattle.page_tree.specs.Tree.{Tree, pagesOf}
 use Rattle.page_tree.specs.Cutting.{split, cut}
 use Rattle.page_tree.specs.OnPages.{onTree}
 use Rattle.page_tree.specs.OffPages.{offTree}
