@@ -1,5 +1,4 @@
 -- Deletion takes no page. Assumes nothing.
-use mathlib.Core.Path.{_≡_}
 use mathlib.Core.Bool.{Bool, true, false, cond}
 use mathlib.Core.List.{List, [], _∷_, _++_}
 use Prim.Native.Nat.{ℕ, zero, suc, _+_, _≤_}
@@ -12,11 +11,7 @@ use Rattle.page_tree.specs.Tree.{Node, depth, leaves, pageCount, Tree, p
 use Rattle.page_tree.specs.Walk.{rest}
 use Rattle.page_tree.specs.OffPages.{Left, Step, stepEntry, over, sweep, unlessEmpty, stepBelow, nextDepth, strike, strikeIn, deleteBelow, lower, rooted, deleteTree}
 use Rattle.page_tree.proofs.ListLaws.{sum-append}
-
--- Entries are no pages.
-pub entries-pages : (es : List Entry) → sum (pageCount 0) es ≡ 0
-entries-pages [] = omega arith
-entries-pages (e ∷ es) = omega (arith, entries-pages es)
+use Rattle.page_tree.proofs.TreeLaws.{entries-pages}
 
 -- An emptied page is none.
 pub unlessEmpty-pages : (n : ℕ) (row : List (Node n)) → sum (pageCount (suc n)) (unlessEmpty row) ≤ suc (sum (pageCount n) row)

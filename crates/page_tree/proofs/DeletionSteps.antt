@@ -9,13 +9,13 @@ use native.Mathlib.Omega.{arith}
 use lib.Dec.{ltb}
 use lib.ListN.{length}
 use Rattle.leaf_list.specs.Entries.{Entry, entry}
-use Rattle.leaf_list.proofs.Depths.{Neighbours, neighbours-tail}
+use Rattle.leaf_list.proofs.Depths.{closed-cons, Neighbours, neighbours-tail}
 use Rattle.page_tree.specs.declared.Unwind.{Unwind}
 use Rattle.page_tree.specs.declared.Unwind.the-variants.{Idle, Give, Clear}
 use Rattle.page_tree.specs.Rows.{All, flats, Closed}
 use Rattle.page_tree.specs.Tree.{Node, depth, leaves, Sound}
 use Rattle.page_tree.specs.OffPages.{Left, Step, stepEntry, over, sweep, unlessEmpty, stepBelow}
-use Rattle.page_tree.proofs.ClosedRows.{closed-last, closed-cons, closed-page}
+use Rattle.page_tree.proofs.ClosedRows.{closed-last, closed-page}
 use Rattle.page_tree.proofs.TreeLaws.{closed-leaves}
 
 -- The neighbours in the second of two lists,

@@ -15,13 +15,14 @@ use Rattle.leaf_list.specs.Insertion.{trailing, leafDepth, dummies, bothLeaves,
 use Rattle.leaf_list.proofs.TrieInsertion.{leafDepth-max}
 use Rattle.leaf_list.proofs.FoundEntry.{FoundOther}
 use Rattle.leaf_list.proofs.InsertionCount.{insertAt-length}
+use Rattle.leaf_list.proofs.Depths.{closed-cons}
 use Rattle.page_tree.specs.Rows.{Closed}
 use Rattle.page_tree.specs.Tree.{depth}
 use Rattle.page_tree.specs.Walk.{rest}
 use Rattle.page_tree.specs.Finding.{Found}
 use Rattle.page_tree.specs.OnPages.{newEntries, replaceIn}
 use Rattle.page_tree.proofs.ListLaws.{all-unit}
-use Rattle.page_tree.proofs.ClosedRows.{closed-cons, closed-nonempty}
+use Rattle.page_tree.proofs.ClosedRows.{closed-nonempty}
 use Rattle.page_tree.proofs.FindingLaws.{FoundAt}
 use Rattle.page_tree.proofs.InsertionSound.{Fits}
 

@@ -5,11 +5,12 @@ use native.Mathlib.Omega.{arith}
 use lib.ListN.{length, length-append}
 use Rattle.leaf_list.proofs.Positions.{Beyond, Rising}
 use Rattle.leaf_list.proofs.Lists.{all-append}
+use Rattle.leaf_list.proofs.Depths.{closed-cons}
 use Rattle.page_tree.specs.Rows.{All, Closed}
 use Rattle.page_tree.specs.Walk.{walk}
 use Rattle.page_tree.specs.Finding.{Found, nowhere}
 use Rattle.page_tree.specs.OnPages.{replaceIn}
-use Rattle.page_tree.proofs.ClosedRows.{closed-cons, closed-replace}
+use Rattle.page_tree.proofs.ClosedRows.{closed-replace}
 use Rattle.page_tree.proofs.WalkLaws.{walk-stop, walk-pass, walk-induction}
 
 -- The row ys may stand in the place of the row xs that c closes.

@@ -7,9 +7,10 @@ use native.Mathlib.Omega.{arith}
 use lib.Dec.{leb}
 use lib.ListN.{length, length-append}
 use borrow.Author.Tests.{leb-true, leb-false}
+use Rattle.leaf_list.proofs.Depths.{closed-cons}
 use Rattle.page_tree.specs.Rows.{Closed}
 use Rattle.page_tree.specs.Cutting.{split}
-use Rattle.page_tree.proofs.ClosedRows.{closed-cons, closed-nonempty}
+use Rattle.page_tree.proofs.ClosedRows.{closed-nonempty}
 
 -- Every depth but the last is at least m.
 abbrev pub NoneBelow : {A : Type 0} → (A → ℕ) → ℕ → List A → Type 0

@@ -1,10 +1,11 @@
--- Level 0 below a sound page is a closed row; folds over the pages. Assumes nothing.
+-- Level 0 below a page: it is a closed row, it is no page, and folds go over it. Assumes nothing.
 use mathlib.Core.Path.{_≡_, refl, sym, _∙_}
 use mathlib.Core.List.{List, [], _∷_, append-nil, foldl, foldl-append}
 use Prim.Native.Nat.{ℕ, zero, suc}
+use native.Mathlib.Omega.{arith}
 use Rattle.leaf_list.specs.Entries.{Entry}
-use Rattle.page_tree.specs.Rows.{All, flats, Closed}
-use Rattle.page_tree.specs.Tree.{Node, depth, leaves, Sound}
+use Rattle.page_tree.specs.Rows.{All, flats, sum, Closed}
+use Rattle.page_tree.specs.Tree.{Node, depth, leaves, Sound, pageCount}
 use Rattle.page_tree.proofs.ClosedRows.{closed-append, closed-deeper}
 
 -- The leaves of a closed row of things, each with closed leaves.
@@ -20,6 +21,11 @@ closed-flats depthX leavesX Good cl c (x ∷ y ∷ xs) h p =
 pub closed-leaves : (E n : ℕ) (x : Node n) → Sound E n x → Closed (depth 0) (depth n x) (leaves n x)
 closed-leaves E zero x s = refl
 closed-leaves E (suc n) page s = closed-flats (depth n) (leaves n) (Sound E n) (closed-leaves E n) (depth (suc n) page) page (s .0 .0) (s .1)
+
+-- Entries are no pages.
+pub entries-pages : (es : List Entry) → sum (pageCount 0) es ≡ 0
+entries-pages [] = omega arith
+entries-pages (e ∷ es) = omega (arith, entries-pages es)
 
 module _ {S : Type 0} (f : S → Entry → S) where
   -- A fold over all below a page, from left to right.

@@ -4,6 +4,7 @@ use mathlib.Core.List.{List, [], _∷_, _++_, foldr, foldr-append}
 use Prim.Native.Nat.{ℕ, _≤_, _<_}
 use borrow.Author.Tests.{lt-ltb, le-ltb}
 use Rattle.leaf_list.specs.Entries.{Entry}
+use Rattle.leaf_list.proofs.Positions.{Beyond, Rising}
 use Rattle.page_tree.specs.declared.Unwind.{Unwind}
 use Rattle.page_tree.specs.declared.Unwind.the-variants.{Idle}
 use Rattle.page_tree.specs.Rows.{flats, lastDepth}
@@ -11,6 +12,7 @@ use Rattle.page_tree.specs.Walk.{rest, walk}
 use Rattle.page_tree.specs.OnPages.{replaceIn}
 use Rattle.page_tree.specs.OffPages.{Left, Step, over, sweep, nextDepth, strikeIn}
 use Rattle.page_tree.proofs.ListLaws.{append-foldr, foldr-same}
+use Rattle.page_tree.proofs.WalkLaws.{rest-rising, first-beyond}
 
 -- The way back over two rows is the way back over the second, and then over the first.
 pub sweep-append : {A : Type 0} (step : Step A) (s : Unwind) (xs ys zs : List A)
@@ -35,14 +37,49 @@ module _ {A : Type 0} (depth : A → ℕ) where
   Stops [] x = Unit {0}
   Stops (b ∷ bs) x = depth x < b
 
-  -- The walk at the place where it stops.
-  pub walk-at : {B : Type 0} (found : List ℕ → ℕ → A → List A → B) (passed : A → B → B) (none : B) (bs : List ℕ) (τ : ℕ) (xs : List A) (y : A) (ys : List A)
-      → Passes bs xs → Stops (positionsAfter bs xs) y → walk depth found passed none bs τ (xs ++ (y ∷ ys)) ≡ foldr passed (found (positionsAfter bs xs) (lastDepth depth τ xs) y ys) xs
-  walk-at found passed none [] τ [] y ys p s = refl
-  walk-at found passed none (b ∷ bs) τ [] y ys p s = rw (lt-ltb (depth y) b s)
-  walk-at found passed none [] τ (x ∷ xs) y ys p s = absurd p
-  walk-at found passed none (b ∷ bs) τ (x ∷ xs) y ys p s =
-      rw (le-ltb (depth x) b (p .0)) (ap (passed x) (walk-at found passed none (rest (depth x) b bs) (depth x) xs y ys (p .1) s))
+  -- Where no position is left, none is.
+  positionsAfter-none : (xs : List A) → positionsAfter [] xs ≡ []
+  positionsAfter-none [] = refl
+  positionsAfter-none (x ∷ xs) = refl
+
+  -- Two rows passed, one after the other.
+  pub positionsAfter-append : (bs : List ℕ) (xs ys : List A) → positionsAfter bs (xs ++ ys) ≡ positionsAfter (positionsAfter bs xs) ys
+  positionsAfter-append bs [] ys = refl
+  positionsAfter-append [] (x ∷ xs) ys = sym (positionsAfter-none ys)
+  positionsAfter-append (b ∷ bs) (x ∷ xs) ys = positionsAfter-append (rest (depth x) b bs) xs ys
+
+  pub passes-append : (bs : List ℕ) (xs ys : List A) → Passes bs xs → Passes (positionsAfter bs xs) ys → Passes bs (xs ++ ys)
+  passes-append bs [] ys p q = q
+  passes-append [] (x ∷ xs) ys p q = absurd p
+  passes-append (b ∷ bs) (x ∷ xs) ys p q = (p .0, passes-append (rest (depth x) b bs) xs ys (p .1) q)
+
+  -- The positions left still rise,
+  pub positionsAfter-rising : (bs : List ℕ) (xs : List A) → Rising bs → Rising (positionsAfter bs xs)
+  positionsAfter-rising bs [] a = a
+  positionsAfter-rising [] (x ∷ xs) a = tt
+  positionsAfter-rising (b ∷ bs) (x ∷ xs) a = positionsAfter-rising (rest (depth x) b bs) xs (rest-rising (depth x) b bs a)
+
+  -- and all are past the thing that stops the walk.
+  pub stops-beyond : (bs : List ℕ) (x : A) → Rising bs → Stops bs x → Beyond (depth x) bs
+  stops-beyond [] x a s = tt
+  stops-beyond (b ∷ bs) x a s = first-beyond (depth x) b bs s a
+
+  module _ {B : Type 0} (found : List ℕ → ℕ → A → List A → B) (passed : A → B → B) (none : B) where
+    -- The walk from the start is what was passed and the walk over the rest of the row.
+    pub walk-passes : (bs : List ℕ) (τ : ℕ) (xs ys : List A) → Passes bs xs
+        → walk depth found passed none bs τ (xs ++ ys) ≡ foldr passed (walk depth found passed none (positionsAfter bs xs) (lastDepth depth τ xs) ys) xs
+    walk-passes bs τ [] ys p = refl
+    walk-passes [] τ (x ∷ xs) ys p = absurd p
+    walk-passes (b ∷ bs) τ (x ∷ xs) ys p = rw (le-ltb (depth x) b (p .0)) (ap (passed x) (walk-passes (rest (depth x) b bs) (depth x) xs ys (p .1)))
+
+    -- The walk at the place where it stops.
+    pub walk-at : (bs : List ℕ) (τ : ℕ) (xs : List A) (y : A) (ys : List A) → Passes bs xs → Stops (positionsAfter bs xs) y
+        → walk depth found passed none bs τ (xs ++ (y ∷ ys)) ≡ foldr passed (found (positionsAfter bs xs) (lastDepth depth τ xs) y ys) xs
+    walk-at bs τ xs y ys p s = walk-passes bs τ xs (y ∷ ys) p ∙ ap (λ (r : B). foldr passed r xs) (stop (positionsAfter bs xs) (lastDepth depth τ xs) s)
+      where
+        stop : (bs : List ℕ) (τ : ℕ) → Stops bs y → walk depth found passed none bs τ (y ∷ ys) ≡ found bs τ y ys
+        stop [] τ s = refl
+        stop (b ∷ bs) τ s = rw (lt-ltb (depth y) b s)
 
   -- A search: what is found there.
   pub find-at : {B : Type 0} (found : List ℕ → ℕ → A → List A → B) (none : B) (bs : List ℕ) (τ : ℕ) (xs : List A) (y : A) (ys : List A) → Passes bs xs → Stops (positionsAfter bs xs) y
