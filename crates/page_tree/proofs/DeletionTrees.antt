@@ -14,26 +14,26 @@ use Rattle.page_tree.specs.OffPages.{Left, stepBelow, unlessEmpty, strik
 use Rattle.page_tree.proofs.DeletionLeaves.{flats-unlessEmpty, deleteFlat, deleteBelow-leaves}
 use Rattle.page_tree.proofs.DeletionSound.{Remains, deleteBelow-remains}
 
--- A lower root has the same level 0,
-pub lower-leaves : (n : ℕ) (page : Node (suc n)) → leavesOf (lower n page) ≡ leaves (suc n) page
-lower-leaves zero page = refl
-lower-leaves (suc n) [] = refl
-lower-leaves (suc n) (x ∷ []) = lower-leaves n x ∙ sym (append-nil (leaves (suc n) x))
-lower-leaves (suc n) (x ∷ y ∷ ys) = refl
+-- After lowering, "a root above level 0 has at least two entries".
+pub lower-root : (E n : ℕ) (page : Node (suc n)) → Sound E (suc n) page → RootRule (lower n page)
+lower-root E zero page s = λ h. absurd (omega arith)
+lower-root E (suc n) [] s = absurd (s .0 .0)
+lower-root E (suc n) (x ∷ []) s = lower-root E n x (s .1 .0)
+lower-root E (suc n) (x ∷ y ∷ ys) s = λ h. omega arith
 
--- is as sound,
+-- The tree is as sound,
 pub lower-sound : (E n : ℕ) (page : Node (suc n)) → Sound E (suc n) page → SoundTree E (lower n page)
 lower-sound E zero page s = s
 lower-sound E (suc n) [] s = s
 lower-sound E (suc n) (x ∷ []) s = lower-sound E n x (s .1 .0)
 lower-sound E (suc n) (x ∷ y ∷ ys) s = s
 
--- and "a root above level 0 has at least two entries".
-pub lower-root : (E n : ℕ) (page : Node (suc n)) → Sound E (suc n) page → RootRule (lower n page)
-lower-root E zero page s = λ h. absurd (omega arith)
-lower-root E (suc n) [] s = absurd (s .0 .0)
-lower-root E (suc n) (x ∷ []) s = lower-root E n x (s .1 .0)
-lower-root E (suc n) (x ∷ y ∷ ys) s = λ h. omega arith
+-- and has the same level 0.
+pub lower-leaves : (n : ℕ) (page : Node (suc n)) → leavesOf (lower n page) ≡ leaves (suc n) page
+lower-leaves zero page = refl
+lower-leaves (suc n) [] = refl
+lower-leaves (suc n) (x ∷ []) = lower-leaves n x ∙ sym (append-nil (leaves (suc n) x))
+lower-leaves (suc n) (x ∷ y ∷ ys) = refl
 
 -- The tree over what is left of the root's row.
 pub rooted-leaves : (n : ℕ) (row : List (Node n)) → leavesOf (rooted n (unlessEmpty row)) ≡ flats (leaves n) row
