@@ -27,7 +27,8 @@ module _ {A : Type 0} (count : A → ℕ) (step : Step A) (ok : (s : Unwind) (x 
       rw (sum-append count (step (r .1) x .0) (r .0)) (omega (arith, ok (r .1) x, sweep-sum s xs))
 
   -- Nor does figure 11 over a row.
-  pub strikeIn-sum : (depthA : A → ℕ) (leavesA : A → List Entry) (at : ℕ → List ℕ → ℕ → A → Left A) → ((ν : ℕ) (bs : List ℕ) (τ : ℕ) (x : A) → sum count (at ν bs τ x .0) ≤ count x)
+  pub strikeIn-sum : (depthA : A → ℕ) (leavesA : A → List Entry) (at : ℕ → List ℕ → ℕ → A → Left A)
+      → ((ν : ℕ) (bs : List ℕ) (τ : ℕ) (x : A) → sum count (at ν bs τ x .0) ≤ count x)
       → (ν : ℕ) (bs : List ℕ) (τ : ℕ) (xs : List A) → sum count (strikeIn depthA leavesA step at ν bs τ xs .0) ≤ sum count xs
   strikeIn-sum depthA leavesA at ok′ ν bs τ [] = omega arith
   strikeIn-sum depthA leavesA at ok′ ν [] τ (x ∷ xs) =

@@ -19,6 +19,7 @@ use Rattle.page_tree.specs.Tree.{Node, depth, leaves, Sound}
 use Rattle.page_tree.specs.OffPages.{Left, Step, over, unlessEmpty, stepBelow, nextDepth, strikeIn, deleteBelow}
 use Rattle.page_tree.proofs.ClosedRows.{closed-append, closed-deeper, closed-replace}
 use Rattle.page_tree.proofs.WalkLaws.{walk-induction}
+use Rattle.page_tree.proofs.DeletionLeaves.{onto}
 use Rattle.page_tree.proofs.DeletionSteps.{neighbours-left, neighbours-right, Stays, Calm, StepLaws, over-calm, stays-page, stepBelow-laws}
 
 -- Nothing is left of what c closed, after an entry of depth τ: the entry before is to take c, or c was no 1-leaf's.
@@ -39,7 +40,8 @@ Remains depthA Good τ c m [] s = Gone τ c s
 Remains depthA Good τ c m (x ∷ xs) s = Stays depthA Good c m (x ∷ xs) × Asked τ c s
 
 -- A row that stays, with what is asked.
-pub remains-stays : {A : Type 0} (depthA : A → ℕ) (Good : A → Type 0) (τ c m : ℕ) (xs : List A) (s : Unwind) → Stays depthA Good c m xs → Asked τ c s → Remains depthA Good τ c m xs s
+pub remains-stays : {A : Type 0} (depthA : A → ℕ) (Good : A → Type 0) (τ c m : ℕ) (xs : List A) (s : Unwind) → Stays depthA Good c m xs → Asked τ c s
+    → Remains depthA Good τ c m xs s
 remains-stays depthA Good τ c m [] s q a = absurd (q .closed)
 remains-stays depthA Good τ c m (x ∷ xs) s q a = (q, a)
 
@@ -67,7 +69,8 @@ first-least depthA c x [] h = omega arith
 first-least depthA c x (y ∷ ys) h = omega (arith, h .0)
 
 -- What remains of the thing found, before the rest of its row.
-pub remains-front : {A : Type 0} (depthA : A → ℕ) (Good : A → Type 0) (τ c : ℕ) (x : A) (xs left : List A) (s : Unwind) → Closed depthA c (x ∷ xs) → All Good xs
+pub remains-front : {A : Type 0} (depthA : A → ℕ) (Good : A → Type 0) (τ c : ℕ) (x : A) (xs left : List A) (s : Unwind) → Closed depthA c (x ∷ xs)
+    → All Good xs
     → Remains depthA Good τ (depthA x) 1 left s → Remains depthA Good τ c (suc (length xs)) (left ++ xs) s
 remains-front depthA Good τ c x [] [] s h p w = rw h at w
 remains-front depthA Good τ c x (z ∷ zs) [] s h p w = (record { closed = h .1; good = p; short = omega arith }, gone-asked τ (depthA x) c s (h .0) w)
@@ -89,7 +92,8 @@ module _ {A : Type 0} (depthA : A → ℕ) (leavesA : A → List Entry) (Good : 
       remains-stays depthA Good τ c (suc m) (step s x .0 ++ ys) (step s x .1) (o .0) (calm-asked τ c (step s x .1) (o .1))
 
   -- One thing more on the left of what remains.
-  pub over-remains : (τ c m : ℕ) (x : A) (ys : List A) (s : Unwind) → Good x → Neighbours (leavesA x) → c < depthA x → Remains depthA Good (depthA x) c m ys s
+  pub over-remains : (τ c m : ℕ) (x : A) (ys : List A) (s : Unwind) → Good x → Neighbours (leavesA x) → c < depthA x
+      → Remains depthA Good (depthA x) c m ys s
       → Remains depthA Good τ c (suc m) (step s x .0 ++ ys) (step s x .1)
   over-remains τ c m x [] Idle p r h q = absurd q
   over-remains τ c m x [] (Clear d) p r h q = absurd (omega (arith, q .0))
@@ -116,10 +120,11 @@ module _ {A : Type 0} (depthA : A → ℕ) (leavesA : A → List Entry) (Good : 
       (ok : (ν : ℕ) (bs : List ℕ) (τ : ℕ) (x : A) → Good x → Neighbours (leavesA x) → Rising bs → Beyond (depthA x) bs
       → Remains depthA Good τ (depthA x) 1 (at ν bs τ x .0) (at ν bs τ x .1)) where
     -- So it does over a row.
-    pub strikeIn-remains : (c ν : ℕ) (bs : List ℕ) (τ : ℕ) (xs : List A) → Closed depthA c xs → All Good xs → Neighbours (flats leavesA xs) → Rising bs → Beyond c bs
+    pub strikeIn-remains : (c ν : ℕ) (bs : List ℕ) (τ : ℕ) (xs : List A) → Closed depthA c xs → All Good xs → Neighbours (flats leavesA xs)
+        → Rising bs → Beyond c bs
         → Remains depthA Good τ c (length xs) (strikeIn depthA leavesA step at ν bs τ xs .0) (strikeIn depthA leavesA step at ν bs τ xs .1)
     strikeIn-remains c ν bs τ xs h p r a e =
-        walk-induction depthA (λ bs τ x xs. (at (nextDepth ν (flats leavesA xs)) bs τ x .0 ++ xs, at (nextDepth ν (flats leavesA xs)) bs τ x .1)) (over step) ([], Idle) Good c
+        walk-induction depthA (λ bs τ x xs. onto (at (nextDepth ν (flats leavesA xs)) bs τ x) xs) (over step) ([], Idle) Good c
         (λ bs τ xs left. Neighbours (flats leavesA xs) → Remains depthA Good τ c (length xs) (left .0) (left .1))
         (λ bs τ x xs cl p a e r.
         let next = nextDepth ν (flats leavesA xs) in

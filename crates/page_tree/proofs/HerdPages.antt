@@ -78,7 +78,8 @@ module _ (w E : ℕ) (s : Herd) (t : Tree) (narrow : Narrow w s) (sorted : Sorte
       (found-in-list (bits w key)) (found-law keyOf w key s n narrow sorted g a))
 
   -- On: afterwards the tree is sound over the leaf list of the herd with the key.
-  pub on-pages : (keyOf : ℕ → ℕ) (key r : ℕ) → 2 ≤ E → key < 2 ^ w → KeysOf keyOf s → lookup key s ≡ none → HerdTree w E (add key r s) (onTree w E keyOf key r t)
+  pub on-pages : (keyOf : ℕ → ℕ) (key r : ℕ) → 2 ≤ E → key < 2 ^ w → KeysOf keyOf s → lookup key s ≡ none
+      → HerdTree w E (add key r s) (onTree w E keyOf key r t)
   on-pages keyOf key r two n g a =
       let k : Key = bits w key in
       let new = newEntries (λ x. bits w (keyOf x)) k r in

@@ -34,7 +34,8 @@ replaceIn-sum d count new more ok (b ∷ bs) τ (x ∷ xs) = step (ltb (d x) b) 
 
 module _ (E : ℕ) (new : Replacement) (one : 1 ≤ E) where
   -- The pages below what stands for a thing.
-  pub insertBelow-pages : (n : ℕ) (bs : List ℕ) (τ : ℕ) (x : Node n) → sum (pageCount n) (insertBelow E new n bs τ x) ≡ pageCount n x + pagesBelow E new n bs τ x
+  pub insertBelow-pages : (n : ℕ) (bs : List ℕ) (τ : ℕ) (x : Node n)
+      → sum (pageCount n) (insertBelow E new n bs τ x) ≡ pageCount n x + pagesBelow E new n bs τ x
   insertBelow-pages zero bs τ x = omega (arith, entries-pages (new bs τ x))
   insertBelow-pages (suc n) bs τ x =
       let row : List (Node n) = replaceIn (depth n) (insertBelow E new n) bs τ x in

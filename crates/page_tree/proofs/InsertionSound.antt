@@ -28,7 +28,8 @@ module _ (E m : ℕ) (new : Replacement) (one : 1 ≤ E) where
       record { closed = k .0; good = k .1; longer = omega (arith, f .0); few = omega (arith, f .1, o .few) }
 
   -- What stands for a thing, at every level, may stand in its place: so at most m things come in.
-  pub insertBelow-inPlace : (n : ℕ) (bs : List ℕ) (τ : ℕ) (x : Node n) → Sound E n x → Rising bs → Beyond (depth n x) bs → Fits m new (findBelow n bs τ x)
+  pub insertBelow-inPlace : (n : ℕ) (bs : List ℕ) (τ : ℕ) (x : Node n) → Sound E n x → Rising bs → Beyond (depth n x) bs
+      → Fits m new (findBelow n bs τ x)
       → InPlace (depth n) (Sound E n) m (depth n x) (x ∷ []) (insertBelow E new n bs τ x)
   insertBelow-inPlace zero bs τ x s a e q = q
   insertBelow-inPlace (suc n) bs τ x s a e q =
@@ -36,7 +37,8 @@ module _ (E m : ℕ) (new : Replacement) (one : 1 ≤ E) where
       (replaceIn-inPlace (depth n) (Sound E n) m (insertBelow E new n) (findBelow n) (Fits m new) (insertBelow-inPlace n) (depth (suc n) x) bs τ x (s .0 .0) (s .1) a e q)
 
   -- So may the row of a page before it is cut.
-  pub row-inPlace : (n : ℕ) (bs : List ℕ) (τ : ℕ) (page : Node (suc n)) → Sound E (suc n) page → Rising bs → Beyond (depth (suc n) page) bs → Fits m new (findBelow (suc n) bs τ page)
+  pub row-inPlace : (n : ℕ) (bs : List ℕ) (τ : ℕ) (page : Node (suc n)) → Sound E (suc n) page → Rising bs → Beyond (depth (suc n) page) bs
+      → Fits m new (findBelow (suc n) bs τ page)
       → InPlace (depth n) (Sound E n) m (depth (suc n) page) page (replaceIn (depth n) (insertBelow E new n) bs τ page)
   row-inPlace n bs τ page s a e q =
       replaceIn-inPlace (depth n) (Sound E n) m (insertBelow E new n) (findBelow n) (Fits m new) (insertBelow-inPlace n) (depth (suc n) page) bs τ page (s .0 .0) (s .1) a e q

@@ -22,8 +22,8 @@ module _ (n : ℕ) (bs : List ℕ) (τ : ℕ) (xs : List (Node n)) (y : Node n) 
 
   -- What is left of the child stands in its place, and the way back goes over those before it.
   pub deleteBelow-at : (ν : ℕ)
-      → (let o : Left (Node n) = struck (depth n) (leaves n) (stepBelow n) (deleteBelow n) ν bs τ xs y ys in
+      → (let o : Left (Node n) = struck (depth n) (leaves n) (deleteBelow n) ν bs τ xs y ys in
       _≡_ {A = Left (Node (suc n))} (deleteBelow (suc n) ν bs τ (xs ++ (y ∷ ys)))
       (unlessEmpty (sweep (stepBelow n) (o .1) xs (o .0 ++ ys) .0), sweep (stepBelow n) (o .1) xs (o .0 ++ ys) .1))
   deleteBelow-at ν =
-      ap (λ (left : Left (Node n)). (unlessEmpty (left .0), left .1)) (strikeIn-at (depth n) (leaves n) (stepBelow n) (deleteBelow n) ν bs τ xs y ys p s)
+      ap (λ (left : Left (Node n)). (unlessEmpty (left .0), left .1)) (strikeIn-at (depth n) (leaves n) (deleteBelow n) ν bs τ xs y ys (stepBelow n) p s)

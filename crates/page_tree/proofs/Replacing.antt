@@ -26,7 +26,8 @@ pub record InPlace {A : Type 0} (depth : A → ℕ) (Good : A → Type 0) (m c :
 
 module _ {A : Type 0} (depth : A → ℕ) (Good : A → Type 0) (m : ℕ) where
   -- What may stand in the place of a thing, before the rest of its row.
-  pub inPlace-front : (c : ℕ) (x : A) (xs ys : List A) → Closed depth c (x ∷ xs) → All Good xs → InPlace depth Good m (depth x) (x ∷ []) ys → InPlace depth Good m c (x ∷ xs) (ys ++ xs)
+  pub inPlace-front : (c : ℕ) (x : A) (xs ys : List A) → Closed depth c (x ∷ xs) → All Good xs → InPlace depth Good m (depth x) (x ∷ []) ys
+      → InPlace depth Good m c (x ∷ xs) (ys ++ xs)
   inPlace-front c x xs ys cl p o =
       record {
         closed = closed-replace depth c x ys xs cl (o .closed);

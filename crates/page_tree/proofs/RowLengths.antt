@@ -20,7 +20,8 @@ longestBelow E new (suc n) bs τ page =
     max (length (replaceIn (depth n) (insertBelow E new n) bs τ page)) (walk (depth n) (λ bs τ x xs. longestBelow E new n bs τ x) (λ x r. r) 0 bs τ page)
 
 -- A replacement that adds at most m entries makes no row longer than E + m, at any level.
-pub longestBelow-short : (E m : ℕ) (new : Replacement) → 1 ≤ E → (n : ℕ) (bs : List ℕ) (τ : ℕ) (x : Node n) → Sound E n x → Rising bs → Beyond (depth n x) bs
+pub longestBelow-short : (E m : ℕ) (new : Replacement) → 1 ≤ E → (n : ℕ) (bs : List ℕ) (τ : ℕ) (x : Node n) → Sound E n x → Rising bs
+    → Beyond (depth n x) bs
     → Fits m new (findBelow n bs τ x) → longestBelow E new n bs τ x ≤ E + m
 longestBelow-short E m new one zero bs τ x s a e q = omega arith
 longestBelow-short E m new one (suc n) bs τ page s a e q =

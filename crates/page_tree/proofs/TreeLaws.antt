@@ -9,7 +9,8 @@ use Rattle.page_tree.specs.Tree.{Node, depth, leaves, Sound, pageCount}
 use Rattle.page_tree.proofs.ClosedRows.{closed-append, closed-deeper}
 
 -- The leaves of a closed row of things, each with closed leaves.
-pub closed-flats : {X : Type 0} (depthX : X → ℕ) (leavesX : X → List Entry) (Good : X → Type 0) → ((x : X) → Good x → Closed (depth 0) (depthX x) (leavesX x))
+pub closed-flats : {X : Type 0} (depthX : X → ℕ) (leavesX : X → List Entry) (Good : X → Type 0)
+    → ((x : X) → Good x → Closed (depth 0) (depthX x) (leavesX x))
     → (c : ℕ) (xs : List X) → Closed depthX c xs → All Good xs → Closed (depth 0) c (flats leavesX xs)
 closed-flats depthX leavesX Good cl c [] h p = absurd h
 closed-flats depthX leavesX Good cl c (x ∷ []) h p = rw (append-nil (leavesX x), ← h) (cl x (p .0))
@@ -34,7 +35,8 @@ module _ {S : Type 0} (f : S → Entry → S) where
   foldBelow (suc n) s page = foldl (foldBelow n) s page
 
   -- Row by row is all in a row.
-  pub foldl-flats : {X : Type 0} (g : S → X → S) (leavesX : X → List Entry) → ((s : S) (x : X) → g s x ≡ foldl f s (leavesX x)) → (s : S) (xs : List X) → foldl g s xs ≡ foldl f s (flats leavesX xs)
+  pub foldl-flats : {X : Type 0} (g : S → X → S) (leavesX : X → List Entry) → ((s : S) (x : X) → g s x ≡ foldl f s (leavesX x))
+      → (s : S) (xs : List X) → foldl g s xs ≡ foldl f s (flats leavesX xs)
   foldl-flats g leavesX e s [] = refl
   foldl-flats g leavesX e s (x ∷ xs) = rw (e s x) (foldl-flats g leavesX e (foldl f s (leavesX x)) xs) ∙ sym (foldl-append f s (leavesX x) (flats leavesX xs))
 

@@ -60,7 +60,8 @@ module _ {A B : Type 0} (depth : A → ℕ) (found : List ℕ → ℕ → A → 
       (stop : (bs : List ℕ) (τ : ℕ) (x : A) (xs : List A) → Closed depth c (x ∷ xs) → All Good (x ∷ xs) → Rising bs → Beyond (depth x) bs → P bs τ (x ∷ xs) (found bs τ x xs))
       (pass : (b : ℕ) (bs : List ℕ) (τ : ℕ) (x y : A) (ys : List A) (r : B) → c < depth x → All Good (x ∷ y ∷ ys) → b ≤ depth x → P (rest (depth x) b bs) (depth x) (y ∷ ys) r
       → P (b ∷ bs) τ (x ∷ y ∷ ys) (passed x r)) where
-    pub walk-induction : (bs : List ℕ) (τ : ℕ) (xs : List A) → Closed depth c xs → All Good xs → Rising bs → Beyond c bs → P bs τ xs (walk depth found passed none bs τ xs)
+    pub walk-induction : (bs : List ℕ) (τ : ℕ) (xs : List A) → Closed depth c xs → All Good xs → Rising bs → Beyond c bs
+        → P bs τ xs (walk depth found passed none bs τ xs)
     walk-induction bs τ [] cl p a e = absurd cl
     walk-induction [] τ (x ∷ xs) cl p a e = stop [] τ x xs cl p tt tt
     walk-induction (b ∷ bs) τ (x ∷ []) cl p a e =
@@ -69,7 +70,8 @@ module _ {A B : Type 0} (depth : A → ℕ) (found : List ℕ → ℕ → A → 
     walk-induction (b ∷ bs) τ (x ∷ y ∷ ys) cl p a e =
         step (ltb (depth x) b) refl (walk-induction (rest (depth x) b bs) (depth x) (y ∷ ys) (cl .1) (p .1) (rest-rising (depth x) b bs a) (rest-beyond c (depth x) b bs e))
       where
-        step : (t : Bool) → ltb (depth x) b ≡ t → P (rest (depth x) b bs) (depth x) (y ∷ ys) (walk depth found passed none (rest (depth x) b bs) (depth x) (y ∷ ys))
+        step : (t : Bool) → ltb (depth x) b ≡ t
+            → P (rest (depth x) b bs) (depth x) (y ∷ ys) (walk depth found passed none (rest (depth x) b bs) (depth x) (y ∷ ys))
             → P (b ∷ bs) τ (x ∷ y ∷ ys)
             (cond t (found (b ∷ bs) τ x (y ∷ ys)) (passed x (walk depth found passed none (rest (depth x) b bs) (depth x) (y ∷ ys))))
         step true q ih = stop (b ∷ bs) τ x (y ∷ ys) cl p a (first-beyond (depth x) b bs (ltb-true (depth x) b q) a)

@@ -48,6 +48,7 @@ module _ {A : Type 0} (depth : A → ℕ) where
   positionsAfter-append [] (x ∷ xs) ys = sym (positionsAfter-none ys)
   positionsAfter-append (b ∷ bs) (x ∷ xs) ys = positionsAfter-append (rest (depth x) b bs) xs ys
 
+  -- Both are passed.
   pub passes-append : (bs : List ℕ) (xs ys : List A) → Passes bs xs → Passes (positionsAfter bs xs) ys → Passes bs (xs ++ ys)
   passes-append bs [] ys p q = q
   passes-append [] (x ∷ xs) ys p q = absurd p
@@ -82,23 +83,27 @@ module _ {A : Type 0} (depth : A → ℕ) where
         stop (b ∷ bs) τ s = rw (lt-ltb (depth y) b s)
 
   -- A search: what is found there.
-  pub find-at : {B : Type 0} (found : List ℕ → ℕ → A → List A → B) (none : B) (bs : List ℕ) (τ : ℕ) (xs : List A) (y : A) (ys : List A) → Passes bs xs → Stops (positionsAfter bs xs) y
+  pub find-at : {B : Type 0} (found : List ℕ → ℕ → A → List A → B) (none : B) (bs : List ℕ) (τ : ℕ) (xs : List A) (y : A) (ys : List A)
+      → Passes bs xs → Stops (positionsAfter bs xs) y
       → walk depth found (λ x r. r) none bs τ (xs ++ (y ∷ ys)) ≡ found (positionsAfter bs xs) (lastDepth depth τ xs) y ys
   find-at found none bs τ xs y ys p s =
       walk-at found (λ x r. r) none bs τ xs y ys p s ∙ sym (foldr-same (found (positionsAfter bs xs) (lastDepth depth τ xs) y ys) xs)
 
   -- An insertion: the row that stands for the thing found, between what was passed and what stands after it.
-  pub replaceIn-at : (new : List ℕ → ℕ → A → List A) (bs : List ℕ) (τ : ℕ) (xs : List A) (y : A) (ys : List A) → Passes bs xs → Stops (positionsAfter bs xs) y
+  pub replaceIn-at : (new : List ℕ → ℕ → A → List A) (bs : List ℕ) (τ : ℕ) (xs : List A) (y : A) (ys : List A) → Passes bs xs
+      → Stops (positionsAfter bs xs) y
       → replaceIn depth new bs τ (xs ++ (y ∷ ys)) ≡ xs ++ (new (positionsAfter bs xs) (lastDepth depth τ xs) y ++ ys)
   replaceIn-at new bs τ xs y ys p s =
       walk-at (λ bs τ x xs. new bs τ x ++ xs) (λ x r. x ∷ r) [] bs τ xs y ys p s ∙ sym (append-foldr xs (new (positionsAfter bs xs) (lastDepth depth τ xs) y ++ ys))
 
-  module _ (leaves : A → List Entry) (step : Step A) (at : ℕ → List ℕ → ℕ → A → Left A) (ν : ℕ) (bs : List ℕ) (τ : ℕ) (xs : List A) (y : A) (ys : List A) where
+  module _ (leaves : A → List Entry) (at : ℕ → List ℕ → ℕ → A → Left A) (ν : ℕ) (bs : List ℕ) (τ : ℕ) (xs : List A) (y : A) (ys : List A) where
     -- What is left of the thing found, with the depths before and after it.
     abbrev pub struck : Left A
     struck = at (nextDepth ν (flats leaves ys)) (positionsAfter bs xs) (lastDepth depth τ xs) y
 
     -- A deletion: the way back to the left from there.
-    pub strikeIn-at : Passes bs xs → Stops (positionsAfter bs xs) y → strikeIn depth leaves step at ν bs τ (xs ++ (y ∷ ys)) ≡ sweep step (struck .1) xs (struck .0 ++ ys)
-    strikeIn-at p s =
-        walk-at (λ bs τ x xs. (at (nextDepth ν (flats leaves xs)) bs τ x .0 ++ xs, at (nextDepth ν (flats leaves xs)) bs τ x .1)) (over step) ([], Idle) bs τ xs y ys p s
+    pub strikeIn-at : (step : Step A) → Passes bs xs → Stops (positionsAfter bs xs) y
+        → strikeIn depth leaves step at ν bs τ (xs ++ (y ∷ ys)) ≡ sweep step (struck .1) xs (struck .0 ++ ys)
+    strikeIn-at step p s =
+        walk-at (λ bs τ x xs. (at (nextDepth ν (flats leaves xs)) bs τ x .0 ++ xs, at (nextDepth ν (flats leaves xs)) bs τ x .1)) (over step) ([], Idle)
+        bs τ xs y ys p s
