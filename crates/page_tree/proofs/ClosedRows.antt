@@ -1,9 +1,10 @@
 -- Rows whose last depth is below all others (01, "In every page in use the last depth is below all others"). Assumes nothing.
-use mathlib.Core.Path.{_≡_}
+use mathlib.Core.Path.{_≡_, refl}
 use mathlib.Core.List.{List, [], _∷_, _++_, append-nil}
 use Prim.Native.Nat.{ℕ, _≤_, _<_}
 use native.Mathlib.Omega.{arith}
 use lib.ListN.{length}
+use Rattle.leaf_list.proofs.Depths.{closed-cons}
 use Rattle.page_tree.specs.Rows.{Deeper, Closed, lastDepth, Page}
 
 module _ {A : Type 0} (depth : A → ℕ) where
@@ -13,15 +14,15 @@ module _ {A : Type 0} (depth : A → ℕ) where
   closed-last c τ (x ∷ []) h = h
   closed-last c τ (x ∷ y ∷ ys) h = closed-last c (depth x) (y ∷ ys) (h .1)
 
-  -- A deeper thing in front.
-  pub closed-cons : (c : ℕ) (x : A) (xs : List A) → c < depth x → Closed depth c xs → Closed depth c (x ∷ xs)
-  closed-cons c x [] h g = absurd g
-  closed-cons c x (y ∷ ys) h g = (h, g)
+  -- The last depth of two rows.
+  pub lastDepth-append : (τ : ℕ) (xs ys : List A) → lastDepth depth τ (xs ++ ys) ≡ lastDepth depth (lastDepth depth τ xs) ys
+  lastDepth-append τ [] ys = refl
+  lastDepth-append τ (x ∷ xs) ys = lastDepth-append (depth x) xs ys
 
   -- Deeper things in front.
   pub closed-append : (c : ℕ) (xs ys : List A) → Deeper depth c xs → Closed depth c ys → Closed depth c (xs ++ ys)
   closed-append c [] ys h g = g
-  closed-append c (x ∷ xs) ys h g = closed-cons c x (xs ++ ys) (h .0) (closed-append c xs ys (h .1) g)
+  closed-append c (x ∷ xs) ys h g = closed-cons depth c x (xs ++ ys) (h .0) (closed-append c xs ys (h .1) g)
 
   -- A row closed by more than b is deeper than b.
   pub closed-deeper : (b c : ℕ) (xs : List A) → b < c → Closed depth c xs → Deeper depth b xs

@@ -1,7 +1,7 @@
 -- The parts of a row that is cut (01, "A page with more than E entries is cut"). Assumes nothing.
 use mathlib.Core.Path.{_≡_, refl, ap₂, sym, _∙_}
-use mathlib.Core.Bool.{Bool, true, false, cond}
 use mathlib.Core.Logic.{_⊎_, inl, inr}
+use mathlib.Core.Bool.{Bool, true, false, cond}
 use mathlib.Core.List.{List, [], _∷_, _++_, append-nil}
 use Prim.Native.Nat.{ℕ, zero, suc, _+_, _-_, _≤_, _<_}
 use native.Mathlib.Omega.{arith}
@@ -23,7 +23,8 @@ module _ {A : Type 0} (depth : A → ℕ) (E : ℕ) where
   cut-fits (suc fuel) row h = rw (le-leb (length row) E h)
 
   -- A longer one: "the left part first, then the right, are cut again".
-  pub cut-long : (fuel : ℕ) (row : List A) → E < length row → cut depth E (suc fuel) row ≡ cut depth E fuel (split depth row .1) ++ cut depth E fuel (split depth row .2)
+  pub cut-long : (fuel : ℕ) (row : List A) → E < length row
+      → cut depth E (suc fuel) row ≡ cut depth E fuel (split depth row .1) ++ cut depth E fuel (split depth row .2)
   unfolding cut
   cut-long fuel row h = rw (lt-leb (length row) E h)
 
@@ -43,7 +44,8 @@ module _ {A : Type 0} (depth : A → ℕ) (E : ℕ) where
       rs : List (List A)
       rs = cut depth E fuel (split depth row .2)
 
-      step : (t : Bool) → leb (length row) E ≡ t → P fuel (split depth row .1) ls → P fuel (split depth row .2) rs → P (suc fuel) row (cond t (row ∷ []) (ls ++ rs))
+      step : (t : Bool) → leb (length row) E ≡ t → P fuel (split depth row .1) ls → P fuel (split depth row .2) rs
+          → P (suc fuel) row (cond t (row ∷ []) (ls ++ rs))
       step true e p q = whole (suc fuel) row (inr (leb-true (length row) E e))
       step false e p q = both fuel row ls rs (leb-false (length row) E e) p q
 
@@ -92,7 +94,8 @@ module _ {A : Type 0} (depth : A → ℕ) (E : ℕ) where
         (closed-append (lastDepth depth 0) c ls rs (closed-deeper (lastDepth depth 0) c (split depth row .0) ls (k .0) (a .0)) (b .0), all-append (Page depth E) ls rs (a .1) (b .1)))
 
     -- Fuel that is enough: more changes nothing.
-    pub cut-fuel : (fuel : ℕ) (row : List A) → length row ≤ fuel + E → (more : ℕ) → length row ≤ more + E → cut depth E fuel row ≡ cut depth E more row
+    pub cut-fuel : (fuel : ℕ) (row : List A) → length row ≤ fuel + E → (more : ℕ) → length row ≤ more + E
+        → cut depth E fuel row ≡ cut depth E more row
     cut-fuel =
         cut-induction (λ fuel row ps. length row ≤ fuel + E → (more : ℕ) → length row ≤ more + E → ps ≡ cut depth E more row)
         (λ fuel row h g more m. sym (cut-fits more row (whole-fits fuel row h g))) again
@@ -126,6 +129,7 @@ module _ {A : Type 0} (depth : A → ℕ) (E : ℕ) where
     -- and a row of more than E is cut at most as often as it has more
     pub few : length ps ≤ suc (length row - E)
 
+  -- So every closed row is cut.
   pub parts-cut : (c : ℕ) (row : List A) → 1 ≤ E → Closed depth c row → WellCut c row (parts depth E row)
   parts-cut c row one cl =
       let o = cut-closed one (length row) row c cl (omega arith) in

@@ -1,5 +1,4 @@
 -- Deletion takes no page. Assumes nothing.
-use mathlib.Core.Path.{_≡_}
 use mathlib.Core.Bool.{Bool, true, false, cond}
 use mathlib.Core.List.{List, [], _∷_, _++_}
 use Prim.Native.Nat.{ℕ, zero, suc, _+_, _≤_}
@@ -12,11 +11,7 @@ use Rattle.page_tree.specs.Tree.{Node, depth, leaves, pageCount, Tree, p
 use Rattle.page_tree.specs.Walk.{rest}
 use Rattle.page_tree.specs.OffPages.{Left, Step, stepEntry, over, sweep, unlessEmpty, stepBelow, nextDepth, strike, strikeIn, deleteBelow, lower, rooted, deleteTree}
 use Rattle.page_tree.proofs.ListLaws.{sum-append}
-
--- Entries are no pages.
-pub entries-pages : (es : List Entry) → sum (pageCount 0) es ≡ 0
-entries-pages [] = omega arith
-entries-pages (e ∷ es) = omega (arith, entries-pages es)
+use Rattle.page_tree.proofs.TreeLaws.{entries-pages}
 
 -- An emptied page is none.
 pub unlessEmpty-pages : (n : ℕ) (row : List (Node n)) → sum (pageCount (suc n)) (unlessEmpty row) ≤ suc (sum (pageCount n) row)
@@ -32,7 +27,8 @@ module _ {A : Type 0} (count : A → ℕ) (step : Step A) (ok : (s : Unwind) (x 
       rw (sum-append count (step (r .1) x .0) (r .0)) (omega (arith, ok (r .1) x, sweep-sum s xs))
 
   -- Nor does figure 11 over a row.
-  pub strikeIn-sum : (depthA : A → ℕ) (leavesA : A → List Entry) (at : ℕ → List ℕ → ℕ → A → Left A) → ((ν : ℕ) (bs : List ℕ) (τ : ℕ) (x : A) → sum count (at ν bs τ x .0) ≤ count x)
+  pub strikeIn-sum : (depthA : A → ℕ) (leavesA : A → List Entry) (at : ℕ → List ℕ → ℕ → A → Left A)
+      → ((ν : ℕ) (bs : List ℕ) (τ : ℕ) (x : A) → sum count (at ν bs τ x .0) ≤ count x)
       → (ν : ℕ) (bs : List ℕ) (τ : ℕ) (xs : List A) → sum count (strikeIn depthA leavesA step at ν bs τ xs .0) ≤ sum count xs
   strikeIn-sum depthA leavesA at ok′ ν bs τ [] = omega arith
   strikeIn-sum depthA leavesA at ok′ ν [] τ (x ∷ xs) =

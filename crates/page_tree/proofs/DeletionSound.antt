@@ -1,5 +1,5 @@
 -- Deletion keeps the pages' rules (01, "an emptied page is freed and its parent entry removed; parent depths follow"). Assumes nothing.
-use mathlib.Core.Path.{_≡_, refl, ap, sym, _∙_}
+use mathlib.Core.Path.{_≡_, refl}
 use mathlib.Core.Bool.{Bool, true, false, cond}
 use mathlib.Core.Option.{none}
 use mathlib.Core.List.{List, [], _∷_, _++_, append-nil}
@@ -7,7 +7,7 @@ use Prim.Native.Nat.{ℕ, zero, suc, _≤_, _<_}
 use native.Mathlib.Omega.{arith}
 use lib.Dec.{ltb}
 use lib.ListN.{length, length-append}
-use borrow.Author.Tests.{ltb-true, ltb-false, lt-ltb}
+use borrow.Author.Tests.{ltb-true, ltb-false}
 use Rattle.leaf_list.specs.Entries.{Entry, entry}
 use Rattle.leaf_list.proofs.Positions.{Beyond, Rising}
 use Rattle.leaf_list.proofs.Depths.{Neighbours}
@@ -15,12 +15,11 @@ use Rattle.leaf_list.proofs.Lists.{all-append}
 use Rattle.page_tree.specs.declared.Unwind.{Unwind}
 use Rattle.page_tree.specs.declared.Unwind.the-variants.{Idle, Give, Clear}
 use Rattle.page_tree.specs.Rows.{All, flats, Closed}
-use Rattle.page_tree.specs.Tree.{Node, depth, leaves, Sound, Tree, leavesOf, SoundTree, RootRule}
-use Rattle.page_tree.specs.Walk.{rest, walk}
-use Rattle.page_tree.specs.OffPages.{Left, Step, over, unlessEmpty, stepBelow, nextDepth, strike, strikeIn, deleteBelow, lower, rooted, deleteTree}
+use Rattle.page_tree.specs.Tree.{Node, depth, leaves, Sound}
+use Rattle.page_tree.specs.OffPages.{Left, Step, over, unlessEmpty, stepBelow, nextDepth, strikeIn, deleteBelow}
 use Rattle.page_tree.proofs.ClosedRows.{closed-append, closed-deeper, closed-replace}
-use Rattle.page_tree.proofs.WalkLaws.{beyond-less, rest-rising, rest-beyond, first-beyond, walk-stop}
-use Rattle.page_tree.proofs.DeletionLeaves.{deleteFlat, deleteBelow-leaves}
+use Rattle.page_tree.proofs.WalkLaws.{walk-induction}
+use Rattle.page_tree.proofs.DeletionLeaves.{onto}
 use Rattle.page_tree.proofs.DeletionSteps.{neighbours-left, neighbours-right, Stays, Calm, StepLaws, over-calm, stays-page, stepBelow-laws}
 
 -- Nothing is left of what c closed, after an entry of depth τ: the entry before is to take c, or c was no 1-leaf's.
@@ -41,7 +40,8 @@ Remains depthA Good τ c m [] s = Gone τ c s
 Remains depthA Good τ c m (x ∷ xs) s = Stays depthA Good c m (x ∷ xs) × Asked τ c s
 
 -- A row that stays, with what is asked.
-pub remains-stays : {A : Type 0} (depthA : A → ℕ) (Good : A → Type 0) (τ c m : ℕ) (xs : List A) (s : Unwind) → Stays depthA Good c m xs → Asked τ c s → Remains depthA Good τ c m xs s
+pub remains-stays : {A : Type 0} (depthA : A → ℕ) (Good : A → Type 0) (τ c m : ℕ) (xs : List A) (s : Unwind) → Stays depthA Good c m xs → Asked τ c s
+    → Remains depthA Good τ c m xs s
 remains-stays depthA Good τ c m [] s q a = absurd (q .closed)
 remains-stays depthA Good τ c m (x ∷ xs) s q a = (q, a)
 
@@ -69,7 +69,8 @@ first-least depthA c x [] h = omega arith
 first-least depthA c x (y ∷ ys) h = omega (arith, h .0)
 
 -- What remains of the thing found, before the rest of its row.
-pub remains-front : {A : Type 0} (depthA : A → ℕ) (Good : A → Type 0) (τ c : ℕ) (x : A) (xs left : List A) (s : Unwind) → Closed depthA c (x ∷ xs) → All Good xs
+pub remains-front : {A : Type 0} (depthA : A → ℕ) (Good : A → Type 0) (τ c : ℕ) (x : A) (xs left : List A) (s : Unwind) → Closed depthA c (x ∷ xs)
+    → All Good xs
     → Remains depthA Good τ (depthA x) 1 left s → Remains depthA Good τ c (suc (length xs)) (left ++ xs) s
 remains-front depthA Good τ c x [] [] s h p w = rw h at w
 remains-front depthA Good τ c x (z ∷ zs) [] s h p w = (record { closed = h .1; good = p; short = omega arith }, gone-asked τ (depthA x) c s (h .0) w)
@@ -91,7 +92,8 @@ module _ {A : Type 0} (depthA : A → ℕ) (leavesA : A → List Entry) (Good : 
       remains-stays depthA Good τ c (suc m) (step s x .0 ++ ys) (step s x .1) (o .0) (calm-asked τ c (step s x .1) (o .1))
 
   -- One thing more on the left of what remains.
-  pub over-remains : (τ c m : ℕ) (x : A) (ys : List A) (s : Unwind) → Good x → Neighbours (leavesA x) → c < depthA x → Remains depthA Good (depthA x) c m ys s
+  pub over-remains : (τ c m : ℕ) (x : A) (ys : List A) (s : Unwind) → Good x → Neighbours (leavesA x) → c < depthA x
+      → Remains depthA Good (depthA x) c m ys s
       → Remains depthA Good τ c (suc m) (step s x .0 ++ ys) (step s x .1)
   over-remains τ c m x [] Idle p r h q = absurd q
   over-remains τ c m x [] (Clear d) p r h q = absurd (omega (arith, q .0))
@@ -118,39 +120,19 @@ module _ {A : Type 0} (depthA : A → ℕ) (leavesA : A → List Entry) (Good : 
       (ok : (ν : ℕ) (bs : List ℕ) (τ : ℕ) (x : A) → Good x → Neighbours (leavesA x) → Rising bs → Beyond (depthA x) bs
       → Remains depthA Good τ (depthA x) 1 (at ν bs τ x .0) (at ν bs τ x .1)) where
     -- So it does over a row.
-    pub strikeIn-remains : (c ν : ℕ) (bs : List ℕ) (τ : ℕ) (xs : List A) → Closed depthA c xs → All Good xs → Neighbours (flats leavesA xs) → Rising bs → Beyond c bs
+    pub strikeIn-remains : (c ν : ℕ) (bs : List ℕ) (τ : ℕ) (xs : List A) → Closed depthA c xs → All Good xs → Neighbours (flats leavesA xs)
+        → Rising bs → Beyond c bs
         → Remains depthA Good τ c (length xs) (strikeIn depthA leavesA step at ν bs τ xs .0) (strikeIn depthA leavesA step at ν bs τ xs .1)
-    strikeIn-remains c ν bs τ [] h p r a e = absurd h
-    strikeIn-remains c ν [] τ (x ∷ xs) h p r a e =
+    strikeIn-remains c ν bs τ xs h p r a e =
+        walk-induction depthA (λ bs τ x xs. onto (at (nextDepth ν (flats leavesA xs)) bs τ x) xs) (over step) ([], Idle) Good c
+        (λ bs τ xs left. Neighbours (flats leavesA xs) → Remains depthA Good τ c (length xs) (left .0) (left .1))
+        (λ bs τ x xs cl p a e r.
         let next = nextDepth ν (flats leavesA xs) in
-        remains-front depthA Good τ c x xs (at next [] τ x .0) (at next [] τ x .1) h (p .1) (ok next [] τ x (p .0) (neighbours-left (leavesA x) (flats leavesA xs) r) tt tt)
-    strikeIn-remains c ν (b ∷ bs) τ (x ∷ []) h p r a e =
-        let w = beyond-less (depthA x) c (b ∷ bs) (omega arith) e in
-        rw (lt-ltb (depthA x) b (w .0))
-        (remains-front depthA Good τ c x [] (at ν (b ∷ bs) τ x .0) (at ν (b ∷ bs) τ x .1) h tt (ok ν (b ∷ bs) τ x (p .0) (neighbours-left (leavesA x) [] r) a w))
-    strikeIn-remains c ν (b ∷ bs) τ (x ∷ y ∷ ys) h p r a e =
-        go (ltb (depthA x) b) refl
-        (strikeIn-remains c ν (rest (depthA x) b bs) (depthA x) (y ∷ ys) (h .1) (p .1) (neighbours-right (leavesA x) (flats leavesA (y ∷ ys)) r) (rest-rising (depthA x) b bs a)
-        (rest-beyond c (depthA x) b bs e))
-      where
-        next : ℕ
-        next = nextDepth ν (flats leavesA (y ∷ ys))
-
-        here : Left A
-        here = at next (b ∷ bs) τ x
-
-        right : Left A
-        right = strikeIn depthA leavesA step at ν (rest (depthA x) b bs) (depthA x) (y ∷ ys)
-
-        both : Bool → Left A
-        both t = cond t (here .0 ++ y ∷ ys, here .1) (over step x right)
-
-        go : (t : Bool) → ltb (depthA x) b ≡ t → Remains depthA Good (depthA x) c (suc (length ys)) (right .0) (right .1)
-            → Remains depthA Good τ c (suc (suc (length ys))) (both t .0) (both t .1)
-        go true l ih =
-            remains-front depthA Good τ c x (y ∷ ys) (here .0) (here .1) h (p .1)
-            (ok next (b ∷ bs) τ x (p .0) (neighbours-left (leavesA x) (flats leavesA (y ∷ ys)) r) a (first-beyond (depthA x) b bs (ltb-true (depthA x) b l) a))
-        go false l ih = over-remains τ c (suc (length ys)) x (right .0) (right .1) (p .0) (neighbours-left (leavesA x) (flats leavesA (y ∷ ys)) r) (h .0) ih
+        remains-front depthA Good τ c x xs (at next bs τ x .0) (at next bs τ x .1) cl (p .1) (ok next bs τ x (p .0) (neighbours-left (leavesA x) (flats leavesA xs) r) a e))
+        (λ b bs τ x y ys left l p h ih r.
+        over-remains τ c (suc (length ys)) x (left .0) (left .1) (p .0) (neighbours-left (leavesA x) (flats leavesA (y ∷ ys)) r) l
+        (ih (neighbours-right (leavesA x) (flats leavesA (y ∷ ys)) r)))
+        bs τ xs h p a e r
 
 -- What remains of a page's row is a page or nothing.
 pub remains-page : (E n τ c m : ℕ) (xs : List (Node n)) (s : Unwind) → m ≤ E → Remains (depth n) (Sound E n) τ c m xs s

@@ -4,19 +4,18 @@ use mathlib.Core.Logic.{_⊎_, inl, inr}
 use mathlib.Core.Bool.{Bool, true, false, cond}
 use mathlib.Core.Option.{none, some}
 use mathlib.Core.List.{List, [], _∷_, _++_, append-nil}
-use Prim.Native.Nat.{ℕ, zero, suc, _+_, _≤_, _<_}
+use Prim.Native.Nat.{ℕ, zero, suc, _≤_, _<_}
 use native.Mathlib.Omega.{arith}
 use lib.Dec.{ltb}
-use lib.ListN.{length, length-append}
+use lib.ListN.{length}
 use Rattle.leaf_list.specs.Entries.{Entry, entry}
-use Rattle.leaf_list.proofs.Depths.{Neighbours, neighbours-tail}
-use Rattle.leaf_list.proofs.Lists.{all-append}
+use Rattle.leaf_list.proofs.Depths.{closed-cons, Neighbours, neighbours-tail}
 use Rattle.page_tree.specs.declared.Unwind.{Unwind}
 use Rattle.page_tree.specs.declared.Unwind.the-variants.{Idle, Give, Clear}
 use Rattle.page_tree.specs.Rows.{All, flats, Closed}
 use Rattle.page_tree.specs.Tree.{Node, depth, leaves, Sound}
 use Rattle.page_tree.specs.OffPages.{Left, Step, stepEntry, over, sweep, unlessEmpty, stepBelow}
-use Rattle.page_tree.proofs.ClosedRows.{closed-last, closed-cons, closed-append, closed-deeper, closed-nonempty, closed-page}
+use Rattle.page_tree.proofs.ClosedRows.{closed-last, closed-page}
 use Rattle.page_tree.proofs.TreeLaws.{closed-leaves}
 
 -- The neighbours in the second of two lists,
@@ -61,7 +60,8 @@ pub record StepLaws {A : Type 0} (depthA : A → ℕ) (leavesA : A → List Entr
   -- it goes whole or not at all where dummies are to go;
   pub clear : (x : A) → Good x → Neighbours (leavesA x) → (d : ℕ) → Cleared depthA leavesA step x d
   -- and it takes a smaller depth over
-  pub give : (x : A) → Good x → Neighbours (leavesA x) → (d : ℕ) → d < depthA x → Stays depthA Good d 1 (step (Give d) x .0) × Calm (step (Give d) x .1)
+  pub give : (x : A) → Good x → Neighbours (leavesA x) → (d : ℕ) → d < depthA x
+      → Stays depthA Good d 1 (step (Give d) x .0) × Calm (step (Give d) x .1)
 
 module _ {A : Type 0} (depthA : A → ℕ) (leavesA : A → List Entry) (Good : A → Type 0) (step : Step A) (k : StepLaws depthA leavesA Good step) where
   -- A row stays as it is where nothing is asked.
@@ -75,7 +75,8 @@ module _ {A : Type 0} (depthA : A → ℕ) (leavesA : A → List Entry) (Good : 
   sweep-clear c [] h p r d = absurd h
   sweep-clear c (x ∷ []) h p r d = go (k .clear x (p .0) (rw (append-nil (leavesA x)) at r) d)
     where
-      go : Cleared depthA leavesA step x d → ((sweep step (Clear d) (x ∷ []) [] ≡ ([], Clear d)) × (flats leavesA (x ∷ []) ≡ entry c none ∷ [])) ⊎ (sweep step (Clear d) (x ∷ []) [] ≡ (x ∷ [], Idle))
+      go : Cleared depthA leavesA step x d
+          → ((sweep step (Clear d) (x ∷ []) [] ≡ ([], Clear d)) × (flats leavesA (x ∷ []) ≡ entry c none ∷ [])) ⊎ (sweep step (Clear d) (x ∷ []) [] ≡ (x ∷ [], Idle))
       go (inl w) = inl (rw (w .0), rw (append-nil (leavesA x), w .1, h))
       go (inr w) = inr (rw w)
   sweep-clear c (x ∷ y ∷ ys) h p r d = go (sweep-clear c (y ∷ ys) (h .1) (p .1) (neighbours-right (leavesA x) (flats leavesA (y ∷ ys)) r) d)
@@ -108,7 +109,8 @@ module _ {A : Type 0} (depthA : A → ℕ) (leavesA : A → List Entry) (Good : 
       (omega (arith, h .0)) (o .0) (o .1)
 
 -- What stays of a page's row is a page.
-pub stays-page : (E n c m : ℕ) (xs : List (Node n)) → m ≤ E → Stays (depth n) (Sound E n) c m xs → Stays (depth (suc n)) (Sound E (suc n)) c 1 (unlessEmpty xs)
+pub stays-page : (E n c m : ℕ) (xs : List (Node n)) → m ≤ E → Stays (depth n) (Sound E n) c m xs
+    → Stays (depth (suc n)) (Sound E (suc n)) c 1 (unlessEmpty xs)
 stays-page E n c m [] h q = absurd (q .closed)
 stays-page E n c m (x ∷ xs) h q =
     record {
@@ -135,7 +137,8 @@ stepBelow-laws E zero =
     clears : (x : Entry) (d : ℕ) → Cleared (depth 0) (leaves 0) stepEntry x d
     clears (entry a none) d = go (ltb d a)
       where
-        go : (t : Bool) → ((_≡_ {A = Left Entry} (cond t ([], Clear d) (entry a none ∷ [], Idle)) ([], Clear d)) × (entry a none ∷ [] ≡ entry a none ∷ []))
+        go : (t : Bool)
+            → ((_≡_ {A = Left Entry} (cond t ([], Clear d) (entry a none ∷ [], Idle)) ([], Clear d)) × (entry a none ∷ [] ≡ entry a none ∷ []))
             ⊎ (_≡_ {A = Left Entry} (cond t ([], Clear d) (entry a none ∷ [], Idle)) (entry a none ∷ [], Idle))
         go true = inl (refl, refl)
         go false = inr refl

@@ -1,15 +1,13 @@
 -- Figure 6 level by level finds what figure 6 finds on level 0 (01, "A walk goes from the root down"). Assumes nothing.
 use mathlib.Core.Path.{_≡_, refl, ap, sym, _∙_}
 use mathlib.Core.Bool.{Bool, true, false, cond}
-use mathlib.Core.Option.{none}
 use mathlib.Core.List.{List, [], _∷_, _++_, append-nil}
-use Prim.Native.Nat.{ℕ, zero, suc, _<_}
+use Prim.Native.Nat.{ℕ, zero, suc}
 use native.Mathlib.Omega.{arith}
-use lib.Dec.{ltb, eqb}
+use lib.Dec.{ltb}
 use borrow.Author.Tests.{lt-ltb}
-use Rattle.leaf_list.specs.Keys.{Key}
-use Rattle.leaf_list.specs.Entries.{Entry, entry, pointerOf}
-use Rattle.leaf_list.specs.Search.{Place, positions, search, pointerAt}
+use Rattle.leaf_list.specs.Entries.{Entry, entry}
+use Rattle.leaf_list.specs.Search.{Place, search}
 use Rattle.leaf_list.specs.Insertion.{trailing}
 use Rattle.leaf_list.proofs.Positions.{Beyond, Rising}
 use Rattle.page_tree.specs.Rows.{flats, Closed}
@@ -30,7 +28,8 @@ findBelow-leaves E (suc n) bs τ x after s a e =
     (depth (suc n) x) bs τ x (s .0 .0) (s .1) a e
 
 -- The same entry, with the same positions left and the same depth before it.
-pub findIn-leaves : (E : ℕ) (bs : List ℕ) (t : Tree) → SoundTree E t → Rising bs → Beyond (depth (suc (t .0)) (t .1)) bs → findIn bs t ≡ findFlat bs 0 (leavesOf t)
+pub findIn-leaves : (E : ℕ) (bs : List ℕ) (t : Tree) → SoundTree E t → Rising bs → Beyond (depth (suc (t .0)) (t .1)) bs
+    → findIn bs t ≡ findFlat bs 0 (leavesOf t)
 findIn-leaves E bs t s a e = findBelow-leaves E (suc (t .0)) bs 0 (t .1) [] s a e ∙ ap (findFlat bs 0) (append-nil (leavesOf t))
 
 -- What a search found is the place at which the list is parted.
@@ -42,7 +41,8 @@ pub record FoundAt (found : Found) (place : Place) : Type 0 where
   pub depthBefore : found .1 ≡ trailing (place .0)
 
 -- On level 0 it is the search of the leaf list.
-pub findFlat-search : (before es : List Entry) (bs : List ℕ) → Closed (depth 0) 0 es → Beyond 0 bs → FoundAt (findFlat bs (trailing before) es) (search before bs es)
+pub findFlat-search : (before es : List Entry) (bs : List ℕ) → Closed (depth 0) 0 es → Beyond 0 bs
+    → FoundAt (findFlat bs (trailing before) es) (search before bs es)
 findFlat-search before [] bs cl e = absurd cl
 findFlat-search before (x ∷ es) [] cl e = record { after = es; entryFound = refl; depthBefore = refl }
 findFlat-search before (entry d p ∷ []) (b ∷ bs) cl e = rw (lt-ltb d b (omega (arith, e .0))) (record { after = []; entryFound = refl; depthBefore = refl })

@@ -29,7 +29,8 @@ settle (Give d) (entry d′ p ∷ before) es = reverseAux (dropDummies d before)
 settle (Clear d) before es = reverseAux (dropDummies d before) es
 
 -- One step to the left.
-pub settle-step : (s : Unwind) (e : Entry) (before es : List Entry) → settle s (e ∷ before) es ≡ settle (stepEntry s e .1) before (stepEntry s e .0 ++ es)
+pub settle-step : (s : Unwind) (e : Entry) (before es : List Entry)
+    → settle s (e ∷ before) es ≡ settle (stepEntry s e .1) before (stepEntry s e .0 ++ es)
 settle-step Idle e before es = refl
 settle-step (Give d) (entry d′ p) before es = refl
 settle-step (Clear d) (entry d′ (some r)) before es = refl

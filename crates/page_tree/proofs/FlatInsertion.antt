@@ -7,7 +7,7 @@ use Prim.Native.Nat.{ℕ, _+_, _<_, _≤_}
 use native.Mathlib.Omega.{arith}
 use lib.Dec.{ltb}
 use lib.ListN.{length}
-use borrow.Author.Tests.{ltb-true, ltb-false}
+use borrow.Author.Tests.{ltb-true}
 use Rattle.leaf_list.specs.Keys.{Key, below, firstDifference}
 use Rattle.leaf_list.specs.Entries.{Entry, entry}
 use Rattle.leaf_list.specs.Search.{Place, positions, search}
@@ -15,13 +15,14 @@ use Rattle.leaf_list.specs.Insertion.{trailing, leafDepth, dummies, bothLeaves,
 use Rattle.leaf_list.proofs.TrieInsertion.{leafDepth-max}
 use Rattle.leaf_list.proofs.FoundEntry.{FoundOther}
 use Rattle.leaf_list.proofs.InsertionCount.{insertAt-length}
-use Rattle.page_tree.specs.Rows.{All, Closed}
+use Rattle.leaf_list.proofs.Depths.{closed-cons}
+use Rattle.page_tree.specs.Rows.{Closed}
 use Rattle.page_tree.specs.Tree.{depth}
 use Rattle.page_tree.specs.Walk.{rest}
 use Rattle.page_tree.specs.Finding.{Found}
 use Rattle.page_tree.specs.OnPages.{newEntries, replaceIn}
 use Rattle.page_tree.proofs.ListLaws.{all-unit}
-use Rattle.page_tree.proofs.ClosedRows.{closed-cons, closed-nonempty}
+use Rattle.page_tree.proofs.ClosedRows.{closed-nonempty}
 use Rattle.page_tree.proofs.FindingLaws.{FoundAt}
 use Rattle.page_tree.proofs.InsertionSound.{Fits}
 
@@ -49,7 +50,8 @@ module _ (keyOf : ℕ → Key) (k : Key) (r : ℕ) where
       b : ℕ
       b = firstDifference 0 k (keyOf old)
 
-      go : (t : Bool) → cond t (entry b (some old) ∷ entry d (some r) ∷ []) (dummies (leafDepth τ d) b (positions 0 k) (bothLeaves (below k (keyOf old)) b d r old [])) ++ after
+      go : (t : Bool)
+          → cond t (entry b (some old) ∷ entry d (some r) ∷ []) (dummies (leafDepth τ d) b (positions 0 k) (bothLeaves (below k (keyOf old)) b d r old [])) ++ after
           ≡ cond t (entry b (some old) ∷ entry d (some r) ∷ after) (dummies (leafDepth τ d) b (positions 0 k) (bothLeaves (below k (keyOf old)) b d r old after))
       go true = refl
       go false =
@@ -81,7 +83,8 @@ module _ (keyOf : ℕ → Key) (k : Key) (r : ℕ) where
   dummies-closed d l b [] es h g = g
   dummies-closed d l b (p ∷ ps) es h g = go (ltb l p) (ltb p b) refl (dummies-closed d l b ps es h g)
     where
-      go : (t u : Bool) → ltb l p ≡ t → Closed (depth 0) d (dummies l b ps es) → Closed (depth 0) d (cond (t && u) (entry p none ∷ dummies l b ps es) (dummies l b ps es))
+      go : (t u : Bool) → ltb l p ≡ t → Closed (depth 0) d (dummies l b ps es)
+          → Closed (depth 0) d (cond (t && u) (entry p none ∷ dummies l b ps es) (dummies l b ps es))
       go true true q i = closed-cons (depth 0) d (entry p none) (dummies l b ps es) (omega (arith, ltb-true l p q)) i
       go true false q i = i
       go false u q i = i
@@ -91,26 +94,30 @@ module _ (keyOf : ℕ → Key) (k : Key) (r : ℕ) where
   bothLeaves-closed false b d new old h = (h, refl)
 
   -- What stands for the entry found has its depth last and all others deeper: insertion never changes a page's last depth.
-  pub insertAt-closed : (τ : ℕ) (e : Entry) (after : List Entry) → FoundOther keyOf k τ (e ∷ after) → Closed (depth 0) (depth 0 e) (insertAt keyOf k r τ (e ∷ []))
+  pub insertAt-closed : (τ : ℕ) (e : Entry) (after : List Entry) → FoundOther keyOf k τ (e ∷ after)
+      → Closed (depth 0) (depth 0 e) (insertAt keyOf k r τ (e ∷ []))
   insertAt-closed τ (entry d none) after h = refl
   insertAt-closed τ (entry d (some old)) after h = go (ltb (firstDifference 0 k (keyOf old)) (leafDepth τ d))
     where
       b : ℕ
       b = firstDifference 0 k (keyOf old)
 
-      go : (t : Bool) → Closed (depth 0) d (cond t (entry b (some old) ∷ entry d (some r) ∷ []) (dummies (leafDepth τ d) b (positions 0 k) (bothLeaves (below k (keyOf old)) b d r old [])))
+      go : (t : Bool)
+          → Closed (depth 0) d (cond t (entry b (some old) ∷ entry d (some r) ∷ []) (dummies (leafDepth τ d) b (positions 0 k) (bothLeaves (below k (keyOf old)) b d r old [])))
       go true = (h .deeper, refl)
       go false =
           dummies-closed d (leafDepth τ d) b (positions 0 k) (bothLeaves (below k (keyOf old)) b d r old []) (omega (arith, leafDepth-max τ d))
           (bothLeaves-closed (below k (keyOf old)) b d r old (h .deeper))
 
   -- And there are at most as many more as the key has bits.
-  pub insertAt-few : (τ : ℕ) (e : Entry) (after : List Entry) → FoundOther keyOf k τ (e ∷ after) → length (insertAt keyOf k r τ (e ∷ [])) ≤ 1 + length k
+  pub insertAt-few : (τ : ℕ) (e : Entry) (after : List Entry) → FoundOther keyOf k τ (e ∷ after)
+      → length (insertAt keyOf k r τ (e ∷ [])) ≤ 1 + length k
   insertAt-few τ (entry d none) after h = insertAt-length keyOf k r τ (entry d none ∷ []) h
   insertAt-few τ (entry d (some old)) after h = insertAt-length keyOf k r τ (entry d (some old) ∷ []) h
 
   -- So the new entries fit where a search of the leaf list found a dummy or another key's leaf.
-  pub newEntries-fit : (found : Found) (place : Place) → FoundAt found place → FoundOther keyOf k (trailing (place .0)) (place .1) → Fits (length k) (newEntries keyOf k r) found
+  pub newEntries-fit : (found : Found) (place : Place) → FoundAt found place → FoundOther keyOf k (trailing (place .0)) (place .1)
+      → Fits (length k) (newEntries keyOf k r) found
   newEntries-fit found place at h =
       let other : FoundOther keyOf k (found .1) (found .2 ∷ at .after) = rw (at .entryFound) at (rw (← (at .depthBefore)) at h) in
       let closed = insertAt-closed (found .1) (found .2) (at .after) other in

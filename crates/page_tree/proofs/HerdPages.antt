@@ -2,7 +2,7 @@
 use mathlib.Core.Path.{_≡_, refl, ap, sym, _∙_}
 use mathlib.Core.Option.{none, some}
 use mathlib.Core.List.{List, [], _∷_}
-use Prim.Native.Nat.{ℕ, suc, _+_, _≤_, _<_, _^_}
+use Prim.Native.Nat.{ℕ, suc, _≤_, _<_, _^_}
 use native.Mathlib.Omega.{arith}
 use lib.ListN.{length}
 use Rattle.leaf_list.specs.Keys.{Key, bits}
@@ -14,15 +14,16 @@ use Rattle.leaf_list.proofs.Bits.{bits-length}
 use Rattle.leaf_list.proofs.Positions.{Beyond, positions-beyond, positions-rise}
 use Rattle.leaf_list.proofs.Laws.{find-law, insertion-law, found-law, deletion-law, closed-law, neighbours-law}
 use Rattle.page_tree.specs.Rows.{Closed, lastDepth}
-use Rattle.page_tree.specs.Tree.{Node, depth, leaves, Tree, leavesOf, SoundTree, RootRule}
-use Rattle.page_tree.specs.Finding.{findFlat, findIn}
-use Rattle.page_tree.specs.OnPages.{newEntries, replaceIn, insertBelow, insertTree, onTree}
-use Rattle.page_tree.specs.OffPages.{deleteTree, offTree}
+use Rattle.page_tree.specs.Tree.{Node, depth, Tree, leavesOf, SoundTree, RootRule}
+use Rattle.page_tree.specs.Finding.{findIn}
+use Rattle.page_tree.specs.OnPages.{Replacement, newEntries, replaceIn, insertBelow, onTree}
+use Rattle.page_tree.specs.OffPages.{offTree}
 use Rattle.page_tree.proofs.ClosedRows.{closed-last}
 use Rattle.page_tree.proofs.TreeLaws.{closed-leaves}
 use Rattle.page_tree.proofs.FindingLaws.{FoundAt, findIn-leaves, findFlat-search}
 use Rattle.page_tree.proofs.InsertionLeaves.{insertTree-leaves}
-use Rattle.page_tree.proofs.InsertionSound.{Fits, insertTree-sound, insertTree-root}
+use Rattle.page_tree.proofs.InsertionSound.{Fits, insertBelow-inPlace, insertTree-sound, insertTree-root}
+use Rattle.page_tree.proofs.RowLengths.{longestBelow, longestBelow-short, longestAbove, longestAbove-first}
 use Rattle.page_tree.proofs.DeletionLeaves.{deleteFlat}
 use Rattle.page_tree.proofs.DeletionTrees.{deleteTree-leaves, deleteTree-sound}
 use Rattle.page_tree.proofs.FlatInsertion.{replaceIn-insertInto, newEntries-fit}
@@ -77,7 +78,8 @@ module _ (w E : ℕ) (s : Herd) (t : Tree) (narrow : Narrow w s) (sorted : Sorte
       (found-in-list (bits w key)) (found-law keyOf w key s n narrow sorted g a))
 
   -- On: afterwards the tree is sound over the leaf list of the herd with the key.
-  pub on-pages : (keyOf : ℕ → ℕ) (key r : ℕ) → 2 ≤ E → key < 2 ^ w → KeysOf keyOf s → lookup key s ≡ none → HerdTree w E (add key r s) (onTree w E keyOf key r t)
+  pub on-pages : (keyOf : ℕ → ℕ) (key r : ℕ) → 2 ≤ E → key < 2 ^ w → KeysOf keyOf s → lookup key s ≡ none
+      → HerdTree w E (add key r s) (onTree w E keyOf key r t)
   on-pages keyOf key r two n g a =
       let k : Key = bits w key in
       let new = newEntries (λ x. bits w (keyOf x)) k r in
@@ -91,6 +93,24 @@ module _ (w E : ℕ) (s : Herd) (t : Tree) (narrow : Narrow w s) (sorted : Sorte
             ∙ replaceIn-insertInto (λ x. bits w (keyOf x)) k r (leafList w s) [] (positions 0 k)
             ∙ insertion-law keyOf w key r s n narrow sorted g a;
       }
+
+  -- "One call adds at most 64 entries, so the row being split holds at most 319 entries"; that of a new root at most 65.
+  pub on-rows : (keyOf : ℕ → ℕ) (key r : ℕ) → 2 ≤ E → E ≤ 255 → w ≤ 64 → key < 2 ^ w → KeysOf keyOf s → lookup key s ≡ none
+      → (let new : Replacement = newEntries (λ x. bits w (keyOf x)) (bits w key) r in
+      let roots : List (Node (suc (t .0))) = insertBelow E new (suc (t .0)) (positions 0 (bits w key)) 0 (t .1) in
+      (longestBelow E new (suc (t .0)) (positions 0 (bits w key)) 0 (t .1) ≤ 319) × (longestAbove E (length roots) (t .0) roots ≤ 65))
+  on-rows keyOf key r two m v n g a =
+      let k : Key = bits w key in
+      let new = newEntries (λ x. bits w (keyOf x)) k r in
+      let roots : List (Node (suc (t .0))) = insertBelow E new (suc (t .0)) (positions 0 k) 0 (t .1) in
+      let fits = new-fits keyOf key r n g a in (
+        omega (arith, longestBelow-short E w new (omega arith) (suc (t .0)) (positions 0 k) 0 (t .1) (h .sound) (positions-rise 0 k) (positions-past k) fits),
+        omega (
+          arith,
+          longestAbove-first E two (length roots) (t .0) roots,
+          insertBelow-inPlace E w new (omega arith) (suc (t .0)) (positions 0 k) 0 (t .1) (h .sound) (positions-rise 0 k) (positions-past k) fits .few,
+        ),
+      )
 
   -- Off: afterwards the tree is sound over the leaf list of the herd without the key.
   pub off-pages : (key r : ℕ) → key < 2 ^ w → lookup key s ≡ some r → HerdTree w E (remove key s) (offTree w key t)

@@ -1,7 +1,7 @@
 -- Level 0 after an insertion in pages (01, "Insertion changes the page of entry i"). Assumes nothing.
 use mathlib.Core.Path.{_≡_, ap, sym, _∙_}
 use mathlib.Core.List.{List, [], _∷_, _++_, append-assoc, append-nil}
-use Prim.Native.Nat.{ℕ, zero, suc, _+_, _-_}
+use Prim.Native.Nat.{ℕ, zero, suc}
 use lib.ListN.{length}
 use Rattle.leaf_list.specs.Entries.{Entry}
 use Rattle.leaf_list.proofs.Positions.{Beyond, Rising}

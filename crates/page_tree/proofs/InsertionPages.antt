@@ -2,11 +2,10 @@
 use mathlib.Core.Path.{_≡_, ap}
 use mathlib.Core.Bool.{Bool, true, false, cond}
 use mathlib.Core.List.{List, [], _∷_, _++_}
-use Prim.Native.Nat.{ℕ, zero, suc, _+_, _-_, _≤_}
+use Prim.Native.Nat.{ℕ, zero, suc, _+_, _≤_}
 use native.Mathlib.Omega.{arith}
 use lib.Dec.{ltb}
 use lib.ListN.{length}
-use Rattle.leaf_list.specs.Entries.{Entry}
 use Rattle.page_tree.specs.Rows.{sum}
 use Rattle.page_tree.specs.Tree.{Node, depth, pageCount, Tree, pagesOf}
 use Rattle.page_tree.specs.Cutting.{parts}
@@ -14,6 +13,7 @@ use Rattle.page_tree.specs.Walk.{rest, walk}
 use Rattle.page_tree.specs.OnPages.{Replacement, replaceIn, insertBelow, pagesBelow, insertTree}
 use Rattle.page_tree.proofs.ListLaws.{sum-append, sum-concat}
 use Rattle.page_tree.proofs.CuttingLaws.{cut-join, cut-few}
+use Rattle.page_tree.proofs.TreeLaws.{entries-pages}
 use Rattle.page_tree.proofs.Growing.{grow-pages, pagesAbove}
 
 -- A sum over a row with the thing found replaced.
@@ -34,12 +34,9 @@ replaceIn-sum d count new more ok (b ∷ bs) τ (x ∷ xs) = step (ltb (d x) b) 
 
 module _ (E : ℕ) (new : Replacement) (one : 1 ≤ E) where
   -- The pages below what stands for a thing.
-  pub insertBelow-pages : (n : ℕ) (bs : List ℕ) (τ : ℕ) (x : Node n) → sum (pageCount n) (insertBelow E new n bs τ x) ≡ pageCount n x + pagesBelow E new n bs τ x
-  insertBelow-pages zero bs τ x = none (new bs τ x)
-    where
-      none : (es : List Entry) → sum (pageCount 0) es ≡ 0 + 0
-      none [] = omega arith
-      none (x ∷ es) = omega (arith, none es)
+  pub insertBelow-pages : (n : ℕ) (bs : List ℕ) (τ : ℕ) (x : Node n)
+      → sum (pageCount n) (insertBelow E new n bs τ x) ≡ pageCount n x + pagesBelow E new n bs τ x
+  insertBelow-pages zero bs τ x = omega (arith, entries-pages (new bs τ x))
   insertBelow-pages (suc n) bs τ x =
       let row : List (Node n) = replaceIn (depth n) (insertBelow E new n) bs τ x in
       omega (

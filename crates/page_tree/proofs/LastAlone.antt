@@ -36,7 +36,8 @@ leaves-alone E (suc n) (x ∷ y ∷ ys) e s h =
     ))
 
 -- In a closed row the last but one is deeper than the last.
-pub closed-before : {A : Type 0} (depthA : A → ℕ) (c : ℕ) (x : A) (xs : List A) (y : A) → Closed depthA c (x ∷ xs ++ y ∷ []) → depthA y < lastDepth depthA (depthA x) xs
+pub closed-before : {A : Type 0} (depthA : A → ℕ) (c : ℕ) (x : A) (xs : List A) (y : A) → Closed depthA c (x ∷ xs ++ y ∷ [])
+    → depthA y < lastDepth depthA (depthA x) xs
 closed-before depthA c x [] y h = omega (arith, h .0, h .1)
 closed-before depthA c x (z ∷ zs) y h = closed-before depthA c z zs y (h .1)
 
@@ -47,7 +48,8 @@ module _ (E n : ℕ) (page : Node (suc n)) (s : Sound E (suc n) page) where
   last-alone (x ∷ xs) e h l = absurd (omega (arith, closed-before (depth 0) (depth (suc n) page) x xs e (rw h at (closed-leaves E (suc n) page s))))
 
   -- A dummy that is last in a page is alone in it.
-  pub dummy-alone : (es : List Entry) (d : ℕ) → Neighbours (leaves (suc n) page) → leaves (suc n) page ≡ es ++ entry d none ∷ [] → Alone (suc n) page (entry d none)
+  pub dummy-alone : (es : List Entry) (d : ℕ) → Neighbours (leaves (suc n) page) → leaves (suc n) page ≡ es ++ entry d none ∷ []
+      → Alone (suc n) page (entry d none)
   dummy-alone es d r h = last-alone es (entry d none) h (before es (rw h at r))
     where
       after : (x : Entry) (xs : List Entry) → Neighbours (x ∷ xs ++ entry d none ∷ []) → lastDepth (depth 0) (depth 0 x) xs ≤ d

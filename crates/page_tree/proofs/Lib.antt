@@ -5,12 +5,14 @@ pub mod CuttingLaws
 pub mod CuttingMaps
 pub mod WalkLaws
 pub mod WalkPlaces
+pub mod PagePlaces
 pub mod TreeLaws
 pub mod FindingLaws
 pub mod Replacing
 pub mod Growing
 pub mod InsertionLeaves
 pub mod InsertionSound
+pub mod RowLengths
 pub mod InsertionPages
 pub mod DeletionLeaves
 pub mod DeletionSteps

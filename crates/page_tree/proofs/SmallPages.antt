@@ -1,44 +1,90 @@
--- P10 and both sides of rows 7 and 8 (01, "Small herds, W 8" and "When a call is declined"), of the definitions. Assumes nothing.
+-- P1 to P10 (01, "Small herds, W 8"), both sides of rows 7 and 8, and small histories, of the definitions. Assumes nothing.
 use mathlib.Core.Path.{_≡_, refl}
-use mathlib.Core.Bool.{cond}
-use mathlib.Core.Option.{Option, none, some}
-use mathlib.Core.List.{List, [], _∷_}
-use Prim.Native.Nat.{ℕ, zero, suc}
-use lib.Dec.{eqb}
+use mathlib.Core.Option.{none, some}
+use mathlib.Core.List.{List, [], _∷_, map, foldl}
+use Prim.Native.Nat.{ℕ}
 use lib.ListN.{getD}
-use Rattle.leaf_list.specs.Entries.{Entry, entry}
-use Rattle.page_tree.specs.Tree.{Node, Tree, pagesOf}
+use Rattle.leaf_list.specs.Entries.{entry}
+use Rattle.leaf_list.specs.Herd.{add}
+use Rattle.leaf_list.specs.LeafList.{leafList}
+use Rattle.leaf_list.proofs.SmallHerds.{SmallHerds, small-herds, herd4}
+use Rattle.page_tree.specs.Tree.{depth, Tree, leavesOf, pagesOf}
 use Rattle.page_tree.specs.Cutting.{split, cut}
 use Rattle.page_tree.specs.OnPages.{onTree}
 use Rattle.page_tree.specs.OffPages.{offTree}
 
-abbrev empty : Tree
-empty = (0, entry 0 none ∷ [])
+-- A record's key comes in, or goes.
+pub data Change : Type 0 where
+  on off : ℕ → Change
 
--- The keys of records 0 to 4 of P10; record 0 is not used.
-abbrev keyOf : ℕ → ℕ
-keyOf r = getD (0 ∷ 0b10101010 ∷ 0b10101100 ∷ 0b00000000 ∷ 0b01000000 ∷ []) r 0
+-- One change, in pages of E entries of keys of w bits; keys has the key of each record.
+abbrev pub change : ℕ → ℕ → List ℕ → Tree → Change → Tree
+change w E keys t (on r) = onTree w E (λ x. getD keys x 0) (getD keys r 0) r t
+change w E keys t (off r) = offTree w (getD keys r 0) t
 
-abbrev on : ℕ → ℕ → Tree → Tree
-on k r t = onTree 8 5 keyOf k r t
+-- All changes, from the empty herd.
+abbrev pub changes : ℕ → ℕ → List ℕ → List Change → Tree
+changes w E keys cs = foldl (change w E keys) (0, entry 0 none ∷ []) cs
 
-p10 : on 0b01000000 4 (on 0b00000000 3 (on 0b10101100 2 (on 0b10101010 1 empty)))
-    ≡ (1, (entry 2 (some 3) ∷ entry 1 (some 4) ∷ []) ∷ (entry 3 none ∷ entry 5 none ∷ entry 6 (some 1) ∷ entry 0 (some 2) ∷ []) ∷ [])
-unfolding cut split
-p10 = refl
+-- The depths of the root's entries.
+abbrev pub rootDepths : Tree → List ℕ
+rootDepths t = map (depth (t .0)) (t .1)
 
-p5 : offTree 8 0b10101100 (on 0b00000000 3 (on 0b10101100 2 (on 0b10101010 1 empty))) ≡ (0, entry 1 (some 3) ∷ entry 0 (some 1) ∷ [])
-unfolding cut split
-p5 = refl
+-- The keys of P10; there is no record 0.
+abbrev pub keys10 : List ℕ
+keys10 = 0 ∷ 0b10101010 ∷ 0b10101100 ∷ 0b00000000 ∷ 0b01000000 ∷ []
+
+abbrev pub tree10 : Tree
+tree10 = changes 8 5 keys10 (on 1 ∷ on 2 ∷ on 3 ∷ on 4 ∷ [])
 
 -- The two largest keys of w bits, in pages of two entries.
-abbrev largestTwo : ℕ → ℕ → ℕ → Tree
-largestTwo w a b = onTree w 2 (λ r. cond (eqb r 0) a b) b 1 (onTree w 2 (λ r. cond (eqb r 0) a b) a 0 empty)
+abbrev pub largestTwo : ℕ → ℕ → ℕ → Tree
+largestTwo w a b = changes w 2 (a ∷ b ∷ []) (on 0 ∷ on 1 ∷ [])
 
-row7 : _≡_ {A = ℕ × ℕ} (pagesOf (largestTwo 16 65534 65535), largestTwo 16 65534 65535 .0) (136, 15)
-unfolding cut split
-row7 = refl
+pub record SmallPages : Type 0 where
+  pub p1-to-p9 : SmallHerds
+  -- "P10 E 5, P4 with 01000000→4: pages (2,3)(1,4) and (3,-)(5,-)(6,1)(0,2), root depths 1, 0."
+  pub p10 : tree10 ≡ (1, (entry 2 (some 3) ∷ entry 1 (some 4) ∷ []) ∷ (entry 3 none ∷ entry 5 none ∷ entry 6 (some 1) ∷ entry 0 (some 2) ∷ []) ∷ [])
+  pub p10-root : rootDepths tree10 ≡ 1 ∷ 0 ∷ []
+  pub p10-level0 : leavesOf tree10 ≡ leafList 8 (add 0b01000000 4 herd4)
+  -- P5 and P6 in pages: P4 less a key.
+  pub p5-pages : changes 8 5 keys10 (on 1 ∷ on 2 ∷ on 3 ∷ off 2 ∷ []) ≡ (0, entry 1 (some 3) ∷ entry 0 (some 1) ∷ [])
+  pub p6-pages : changes 8 5 keys10 (on 1 ∷ on 2 ∷ on 3 ∷ off 3 ∷ []) ≡ changes 8 5 keys10 (on 1 ∷ on 2 ∷ [])
+  -- Row 7: "E 2, W 16, P 136 accepts both keys, root level 15", and 135 pages are too few.
+  pub row7-pages : pagesOf (largestTwo 16 65534 65535) ≡ 136
+  pub row7-level : largestTwo 16 65534 65535 .0 ≡ 15
+  -- Row 8: "E 2, W 17, the two largest keys".
+  pub row8-level : largestTwo 17 131070 131071 .0 ≡ 16
+  -- Histories, with what another implementation gives.
+  pub history1 : changes 8 2 (96 ∷ 105 ∷ 160 ∷ 0 ∷ []) (on 0 ∷ off 0 ∷ on 1 ∷ on 2 ∷ on 3 ∷ off 1 ∷ []) ≡ (1, (entry 1 (some 3) ∷ []) ∷ (entry 0 (some 2) ∷ []) ∷ [])
+  pub history2 :
+      changes 8 3 (90 ∷ 93 ∷ 189 ∷ 64 ∷ 27 ∷ 1 ∷ []) (on 0 ∷ off 0 ∷ on 1 ∷ off 1 ∷ on 2 ∷ on 3 ∷ on 4 ∷ on 5 ∷ off 5 ∷ [])
+      ≡ (1, (entry 2 (some 4) ∷ entry 1 (some 3) ∷ []) ∷ (entry 0 (some 2) ∷ []) ∷ [])
+  pub history3 :
+      changes 8 2 (52 ∷ 2 ∷ 11 ∷ 46 ∷ 187 ∷ 114 ∷ 0 ∷ 99 ∷ 127 ∷ []) (on 0 ∷ on 1 ∷ on 2 ∷ off 2 ∷ off 0 ∷ on 3 ∷ on 4 ∷ on 5 ∷ on 6 ∷ on 7 ∷ on 8 ∷ off 5 ∷ [])
+      ≡ (
+        4,
+        ((((entry 7 (some 6) ∷ entry 3 (some 1) ∷ []) ∷ (entry 2 (some 3) ∷ []) ∷ []) ∷ [])
+            ∷ (((entry 3 none ∷ []) ∷ []) ∷ ((entry 4 (some 7) ∷ []) ∷ (entry 1 (some 8) ∷ []) ∷ []) ∷ [])
+            ∷ [])
+            ∷ ((((entry 0 (some 4) ∷ []) ∷ []) ∷ []) ∷ [])
+            ∷ [],
+      )
 
-row8 : largestTwo 17 131070 131071 .0 ≡ 16
-unfolding cut split
-row8 = refl
+pub small-pages : SmallPages
+unfolding cut split leafList
+small-pages =
+    record {
+      p1-to-p9 = small-herds;
+      p10 = refl;
+      p10-root = refl;
+      p10-level0 = refl;
+      p5-pages = refl;
+      p6-pages = refl;
+      row7-pages = refl;
+      row7-level = refl;
+      row8-level = refl;
+      history1 = refl;
+      history2 = refl;
+      history3 = refl;
+    }

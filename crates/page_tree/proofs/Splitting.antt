@@ -7,9 +7,10 @@ use native.Mathlib.Omega.{arith}
 use lib.Dec.{leb}
 use lib.ListN.{length, length-append}
 use borrow.Author.Tests.{leb-true, leb-false}
+use Rattle.leaf_list.proofs.Depths.{closed-cons}
 use Rattle.page_tree.specs.Rows.{Closed}
 use Rattle.page_tree.specs.Cutting.{split}
-use Rattle.page_tree.proofs.ClosedRows.{closed-cons, closed-nonempty}
+use Rattle.page_tree.proofs.ClosedRows.{closed-nonempty}
 
 -- Every depth but the last is at least m.
 abbrev pub NoneBelow : {A : Type 0} → (A → ℕ) → ℕ → List A → Type 0
@@ -97,7 +98,8 @@ module _ {A : Type 0} (depth : A → ℕ) where
   pub split-closed : (c : ℕ) (row : List A) → 2 ≤ length row → Closed depth c row → (c < split depth row .0) × Closed depth c (split depth row .2)
   split-closed c row n h = let s = split-shallowest depth row n in closed-parts c (split depth row .0) (split depth row .1) (split depth row .2) (s .first) (s .last) (rw (s .joined) h)
     where
-      closed-parts : (c m : ℕ) (left right : List A) → Closed depth m left → 1 ≤ length right → Closed depth c (left ++ right) → (c < m) × Closed depth c right
+      closed-parts : (c m : ℕ) (left right : List A) → Closed depth m left → 1 ≤ length right → Closed depth c (left ++ right)
+          → (c < m) × Closed depth c right
       closed-parts c m [] right f l h = absurd f
       closed-parts c m (x ∷ []) [] f l h = absurd (omega arith)
       closed-parts c m (x ∷ []) (y ∷ ys) f l h = (omega (arith, h .0), h .1)

@@ -55,6 +55,28 @@ module _ {A B : Type 0} (depth : A → ℕ) (found : List ℕ → ℕ → A → 
       walk-pass b bs τ x (y ∷ ys ++ R) (omega (arith, h .0))
       ∙ rw (ne-eqb (depth x) b (omega (arith, h .0))) (ap (passed x) (walk-row c b bs (depth x) (y ∷ ys) R (h .1) g))
 
+  -- What holds where the walk stops, and of a row with one thing more that is passed, holds of every row that c closes.
+  module _ (Good : A → Type 0) (c : ℕ) (P : List ℕ → ℕ → List A → B → Type 0)
+      (stop : (bs : List ℕ) (τ : ℕ) (x : A) (xs : List A) → Closed depth c (x ∷ xs) → All Good (x ∷ xs) → Rising bs → Beyond (depth x) bs → P bs τ (x ∷ xs) (found bs τ x xs))
+      (pass : (b : ℕ) (bs : List ℕ) (τ : ℕ) (x y : A) (ys : List A) (r : B) → c < depth x → All Good (x ∷ y ∷ ys) → b ≤ depth x → P (rest (depth x) b bs) (depth x) (y ∷ ys) r
+      → P (b ∷ bs) τ (x ∷ y ∷ ys) (passed x r)) where
+    pub walk-induction : (bs : List ℕ) (τ : ℕ) (xs : List A) → Closed depth c xs → All Good xs → Rising bs → Beyond c bs
+        → P bs τ xs (walk depth found passed none bs τ xs)
+    walk-induction bs τ [] cl p a e = absurd cl
+    walk-induction [] τ (x ∷ xs) cl p a e = stop [] τ x xs cl p tt tt
+    walk-induction (b ∷ bs) τ (x ∷ []) cl p a e =
+        let g = beyond-less (depth x) c (b ∷ bs) (omega arith) e in
+        rw (lt-ltb (depth x) b (g .0)) (stop (b ∷ bs) τ x [] cl p a g)
+    walk-induction (b ∷ bs) τ (x ∷ y ∷ ys) cl p a e =
+        step (ltb (depth x) b) refl (walk-induction (rest (depth x) b bs) (depth x) (y ∷ ys) (cl .1) (p .1) (rest-rising (depth x) b bs a) (rest-beyond c (depth x) b bs e))
+      where
+        step : (t : Bool) → ltb (depth x) b ≡ t
+            → P (rest (depth x) b bs) (depth x) (y ∷ ys) (walk depth found passed none (rest (depth x) b bs) (depth x) (y ∷ ys))
+            → P (b ∷ bs) τ (x ∷ y ∷ ys)
+            (cond t (found (b ∷ bs) τ x (y ∷ ys)) (passed x (walk depth found passed none (rest (depth x) b bs) (depth x) (y ∷ ys))))
+        step true q ih = stop (b ∷ bs) τ x (y ∷ ys) cl p a (first-beyond (depth x) b bs (ltb-true (depth x) b q) a)
+        step false q ih = pass b bs τ x y ys _ (cl .0) p (ltb-false (depth x) b q) ih
+
 -- The walk over a row of things, each a closed row of A's by its leaves, with what stands after them; through is what the answers mean below.
 module _ {A X B Y : Type 0} (depth : A → ℕ) (depthX : X → ℕ) (leaves : X → List A) (Good : X → Type 0)
     (found : List ℕ → ℕ → A → List A → B) (passed : A → B → B) (none : B) (foundX : List ℕ → ℕ → X → List X → Y) (passedX : X → Y → Y) (noneX : Y)
@@ -65,26 +87,10 @@ module _ {A X B Y : Type 0} (depth : A → ℕ) (depthX : X → ℕ) (leaves : X
   -- The walk over the row is the walk over all the leaves.
   pub walk-flats : (c : ℕ) (bs : List ℕ) (τ : ℕ) (xs : List X) → Closed depthX c xs → All Good xs → Rising bs → Beyond c bs
       → through (walk depthX foundX passedX noneX bs τ xs) ≡ walk depth found passed none bs τ (flats leaves xs ++ after)
-  walk-flats c bs τ [] cl p a e = absurd cl
-  walk-flats c [] τ (x ∷ xs) cl p a e = at-found [] τ x xs (p .0) tt tt ∙ rw append-assoc
-  walk-flats c (b ∷ bs) τ (x ∷ []) cl p a e =
-      let g = beyond-less (depthX x) c (b ∷ bs) (omega arith) e in
-      ap through (walk-stop depthX foundX passedX noneX (b ∷ bs) τ x [] g) ∙ at-found (b ∷ bs) τ x [] (p .0) a g ∙ rw append-assoc
-  walk-flats c (b ∷ bs) τ (x ∷ y ∷ xs) cl p a e =
-      step (ltb (depthX x) b) refl (walk-flats c (rest (depthX x) b bs) (depthX x) (y ∷ xs) (cl .1) (p .1) (rest-rising (depthX x) b bs a) (rest-beyond c (depthX x) b bs e))
-    where
-      step : (t : Bool) → ltb (depthX x) b ≡ t
-          → through (walk depthX foundX passedX noneX (rest (depthX x) b bs) (depthX x) (y ∷ xs))
-          ≡ walk depth found passed none (rest (depthX x) b bs) (depthX x) (flats leaves (y ∷ xs) ++ after)
-          → through (walk depthX foundX passedX noneX (b ∷ bs) τ (x ∷ y ∷ xs)) ≡ walk depth found passed none (b ∷ bs) τ (flats leaves (x ∷ y ∷ xs) ++ after)
-      step true q ih =
-          let g = first-beyond (depthX x) b bs (ltb-true (depthX x) b q) a in
-          ap through (walk-stop depthX foundX passedX noneX (b ∷ bs) τ x (y ∷ xs) g)
-          ∙ at-found (b ∷ bs) τ x (y ∷ xs) (p .0) a g
-          ∙ rw (append-assoc (leaves x) (flats leaves (y ∷ xs)) after)
-      step false q ih =
-          ap through (walk-pass depthX foundX passedX noneX b bs τ x (y ∷ xs) (ltb-false (depthX x) b q))
-          ∙ at-passed x _ (p .0)
-          ∙ ap (λ (r : B). foldr passed r (leaves x)) ih
-          ∙ sym (walk-row depth found passed none (depthX x) b bs τ (leaves x) (flats leaves (y ∷ xs) ++ after) (closed x (p .0)) (ltb-false (depthX x) b q))
-          ∙ rw (append-assoc (leaves x) (flats leaves (y ∷ xs)) after)
+  walk-flats c =
+      walk-induction depthX foundX passedX noneX Good c (λ bs τ xs y. through y ≡ walk depth found passed none bs τ (flats leaves xs ++ after))
+      (λ bs τ x xs cl p a e. at-found bs τ x xs (p .0) a e ∙ rw append-assoc)
+      (λ b bs τ x y ys r l p h ih. at-passed x r (p .0)
+      ∙ ap (λ (v : B). foldr passed v (leaves x)) ih
+      ∙ sym (walk-row depth found passed none (depthX x) b bs τ (leaves x) (flats leaves (y ∷ ys) ++ after) (closed x (p .0)) h)
+      ∙ rw (append-assoc (leaves x) (flats leaves (y ∷ ys)) after))
