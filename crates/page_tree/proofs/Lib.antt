@@ -1,1 +1,6 @@
 pub mod SmallPages
+pub mod RowLaws
+pub mod Choice
+pub mod PartLaws
+pub mod PartEnds
+pub mod RowCuts
