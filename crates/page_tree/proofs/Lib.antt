@@ -24,3 +24,8 @@ pub mod FlatInsertion
 pub mod FlatDeletion
 pub mod HerdPages
 pub mod SmallPages
+pub mod RowLaws
+pub mod Choice
+pub mod PartLaws
+pub mod PartEnds
+pub mod RowCuts
