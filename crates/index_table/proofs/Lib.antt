@@ -6,6 +6,7 @@ pub mod PageReads
 pub mod PageCounts
 pub mod Frames
 pub mod SoundNodes
+pub mod SoundTables
 pub mod StoredRows
 pub mod UsedPages
 pub mod HeaderLaws

@@ -90,14 +90,20 @@ pub fn child(index: &[u8], e: u8, page: PageNo, i: usize) -> PageNo
     PageNo(pointer(index, e, page, i) as u16)
 }
 
+// What a pointer on level 0 means.
+pub fn answer_of(pointer: u32) -> Answer
+    ensures { λ r. ⌜ r ≡ answerOf pointer ⌝ }
+{
+    if pointer == 65535 {
+        return Answer::Dummy;
+    }
+    Answer::Live(RecordNo(pointer))
+}
+
 // The record that entry i of a page of level 0 points at.
 pub fn record(index: &[u8], e: u8, page: PageNo, i: usize) -> Answer
     requires { ⌜ Within (layoutOf e) (now index) (page .0) × (i < e) ⌝ }
     ensures { λ r. ⌜ r ≡ answerOf (refAt (layoutOf e) (pageBytes (layoutOf e) (now (index .entry)) (page .0)) i .1) ⌝ }
 {
-    let p = pointer(index, e, page, i);
-    if p == 65535 {
-        return Answer::Dummy;
-    }
-    Answer::Live(RecordNo(p))
+    answer_of(pointer(index, e, page, i))
 }
