@@ -2,14 +2,13 @@
 use mathlib.Core.Path.{_≡_, refl, sym, ap, ap₂, _∙_}
 use mathlib.Core.Logic.{_⊎_, inl, inr}
 use mathlib.Core.List.{List, [], _∷_, map}
-use Prim.Native.Nat.{ℕ, zero, suc, _+_, _≤_, _<_}
+use Prim.Native.Nat.{ℕ, zero, suc, _≤_, _<_}
 use native.Mathlib.Omega.{arith}
 use lib.ListN.{length, getD}
-use Rattle.page_tree.specs.Rows.{All, sum}
-use Rattle.page_tree.specs.Tree.{Node}
+use Rattle.page_tree.specs.Rows.{All}
 use Rattle.index_table.specs.Layout.{Layout, Ref, pageSize, pageStart, Within, pageBytes, refsOf, pageOf, store}
 use Rattle.index_table.specs.Pages.{Pages, pagesAt, nodeAt, same, met, metAll}
-use Rattle.index_table.specs.Soundness.{SizedPage, SoundBelow}
+use Rattle.index_table.specs.Soundness.{SoundBelow}
 use Rattle.index_table.proofs.PageBytes.{page-beyond, page-stored, other-page}
 use Rattle.index_table.proofs.PageRows.{Fitting, length-refs, length-page-of, refs-page-of}
 use Rattle.index_table.proofs.PageCounts.{same-self, same-cases}

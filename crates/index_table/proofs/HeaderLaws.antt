@@ -1,9 +1,9 @@
 -- The header's numbers after it is written, and after pages are stored (01, "Pages"). Assumes nothing.
 use mathlib.Core.Path.{_≡_, refl, sym, ap, ap₂, _∙_}
-use mathlib.Core.List.{List, [], _∷_, _++_}
-use Prim.Native.Nat.{ℕ, zero, suc, _+_, _*_, _≤_, _<_, _/_, _%_}
+use mathlib.Core.List.{List, [], _∷_}
+use Prim.Native.Nat.{ℕ, suc, _+_, _*_, _≤_, _<_, _/_, _%_}
 use native.Mathlib.Omega.{arith}
-use lib.ListN.{length, getD, take, drop, set, replicate}
+use lib.ListN.{length, getD, take, drop, replicate}
 use lib.Seq.{getD-take}
 use Rattle.index_table.specs.Bytes.{bytesOf, over}
 use Rattle.index_table.specs.Layout.{Layout, layoutOf, pageSize, pageStart, pageBytes, store}

@@ -5,7 +5,7 @@ use Prim.Native.Nat.{ℕ, zero, suc, _+_, _-_, _≤_, _<_}
 use native.Mathlib.Omega.{arith}
 use native.Mathlib.Numerals.{add-one}
 use lib.ListN.{length, getD, take, drop, set, length-take}
-use lib.Seq.{sets, length-sets, sets-eq, take-set-le, drop-set-lt, take-at, drop-at, take-nil, drop-nil, getD-take, getD-drop}
+use lib.Seq.{sets, length-sets, sets-eq, take-set-le, drop-set-lt, take-at, drop-at, take-nil, getD-take, getD-drop}
 use Rattle.index_table.specs.Bytes.{over, table}
 
 -- ---- one list over another

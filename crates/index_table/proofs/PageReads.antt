@@ -1,12 +1,11 @@
 -- What the readers of a page find in the table's bytes, as they are laid out today (01, "Pages"). Assumes nothing.
-use mathlib.Core.Path.{_≡_, refl, sym, ap, ap₂, _∙_}
-use mathlib.Core.List.{List, [], _∷_}
-use Prim.Native.Nat.{ℕ, suc, _+_, _*_, _≤_, _<_}
+use mathlib.Core.Path.{_≡_, sym, ap, ap₂, _∙_}
+use mathlib.Core.List.{List}
+use Prim.Native.Nat.{ℕ, _+_, _*_, _≤_, _<_}
 use native.Mathlib.Omega.{arith}
 use native.Mathlib.Nat.{mul-le-mul-right, mul-le-mul-left}
 use lib.ListN.{length, getD, drop, length-drop}
 use lib.Seq.{getD-drop}
-use Rattle.index_table.specs.Bytes.{number}
 use Rattle.index_table.specs.Layout.{layoutOf, pageStart, Within, pageBytes, levelOf, countOf, firstRef, refAt}
 use Rattle.index_table.proofs.NumberLaws.{number-two}
 use Rattle.index_table.proofs.PageBytes.{length-page-bytes, page-byte}

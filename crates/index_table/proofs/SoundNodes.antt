@@ -1,14 +1,14 @@
 -- Sound pages read as a sound tree, with the depths that their entries say (01, "for every parent entry the depth equals the last depth of its child"). Assumes nothing.
-use mathlib.Core.Path.{_≡_, refl, sym, ap, _∙_}
+use mathlib.Core.Path.{_≡_, refl, _∙_}
 use mathlib.Core.List.{List, [], _∷_, map}
-use Prim.Native.Nat.{ℕ, zero, suc, _≤_, _<_}
-use lib.ListN.{length, length-map}
-use Rattle.page_tree.specs.Rows.{All, Closed, lastDepth}
+use Prim.Native.Nat.{ℕ, zero, suc}
+use lib.ListN.{length-map}
+use Rattle.page_tree.specs.Rows.{All, Closed}
 use Rattle.page_tree.specs.Tree.{Node, depth, Sound, SoundTree, RootRule}
 use Rattle.page_tree.proofs.ClosedRows.{closed-last, closed-page}
 use Rattle.index_table.specs.Layout.{Layout, Ref}
 use Rattle.index_table.specs.Pages.{pagesAt, nodeAt, treeAt, rootRef}
-use Rattle.index_table.specs.Soundness.{SizedPage, SoundBelow, SoundPages}
+use Rattle.index_table.specs.Soundness.{SoundBelow, SoundPages}
 
 -- A closed row, of things with the same depths.
 closed-map : {A B : Type 0} (d : A → ℕ) (d′ : B → ℕ) (f : A → B) (c : ℕ) (xs : List A) → All (λ x. d′ (f x) ≡ d x) xs → Closed d c xs → Closed d′ c (map f xs)

@@ -1,16 +1,16 @@
 -- A row that is stored in a page: what is read below it, and that it is sound (01, "Pages"). Assumes nothing.
-use mathlib.Core.Path.{_≡_, refl, sym, ap, ap₂, _∙_}
-use mathlib.Core.List.{List, [], _∷_, _++_, map}
+use mathlib.Core.Path.{_≡_, refl, ap, ap₂, _∙_}
+use mathlib.Core.List.{List, [], _∷_, map}
 use Prim.Native.Nat.{ℕ, zero, suc, _+_, _*_, _-_, _≤_, _<_}
 use native.Mathlib.Omega.{arith}
-use lib.ListN.{length, getD, take, drop, replicate, length-replicate, drop-of-length-le}
+use lib.ListN.{length, getD, drop, replicate}
 use Rattle.page_tree.specs.Rows.{All, Closed}
 use Rattle.index_table.specs.Bytes.{AllZero, table}
 use Rattle.index_table.specs.Layout.{Layout, Ref, entrySize, pageSize, Within, pageBytes, levelOf, countOf, refAt, refsOf, pageOf, store}
 use Rattle.index_table.specs.Pages.{pagesAt, nodeAt, same, met, metAll}
-use Rattle.index_table.specs.Soundness.{SizedPage, SoundBelow, Cleared}
+use Rattle.index_table.specs.Soundness.{SoundBelow, Cleared}
 use Rattle.index_table.proofs.PageBytes.{page-stored}
-use Rattle.index_table.proofs.PageRows.{Fitting, length-page-of, page-of-head, page-of-rest, refs-page-of}
+use Rattle.index_table.proofs.PageRows.{Fitting, length-page-of, page-of-head, page-of-rest}
 use Rattle.index_table.proofs.Frames.{stored-refs, store-apart-row}
 
 -- ---- zeros

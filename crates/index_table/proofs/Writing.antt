@@ -1,10 +1,10 @@
 -- What the stores of the writers are, one step at a time. Assumes nothing.
-use mathlib.Core.Path.{_≡_, refl, sym, ap, _∙_}
-use mathlib.Core.List.{List, [], _∷_, _++_}
-use Prim.Native.Nat.{ℕ, zero, suc, _+_, _≤_, _<_, _/_, _%_}
+use mathlib.Core.Path.{_≡_, sym, ap, _∙_}
+use mathlib.Core.List.{List, [], _∷_}
+use Prim.Native.Nat.{ℕ, _+_, _≤_, _<_, _/_, _%_}
 use native.Mathlib.Omega.{arith}
 use native.Mathlib.Numerals.{add-one, add-two}
-use lib.ListN.{length, set, replicate, length-replicate, replicate-append-replicate}
+use lib.ListN.{set, replicate, length-replicate, replicate-append-replicate}
 use Rattle.index_table.specs.Bytes.{bytesOf, over}
 use Rattle.index_table.specs.Layout.{Layout, pageBytes, countOf, refBytes}
 use Rattle.index_table.specs.Header.{headerBytes}
