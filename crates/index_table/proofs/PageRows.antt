@@ -1,16 +1,16 @@
 -- The entries of a page: what was written as a row is read as that row (01, "Pages"). Assumes nothing.
 use mathlib.Core.Path.{_≡_, refl, sym, ap, ap₂, _∙_}
 use mathlib.Core.List.{List, [], _∷_, _++_, append-assoc}
-use Prim.Native.Nat.{ℕ, suc, _+_, _*_, _-_, _≤_, _<_, _^_}
+use Prim.Native.Nat.{ℕ, zero, suc, _+_, _*_, _-_, _≤_, _<_, _^_}
 use native.Mathlib.Omega.{arith}
 use native.Mathlib.Nat.{mul-zero, mul-suc, mul-sub, mul-le-mul-left}
 use lib.ListN.{length, getD, drop, replicate, length-append, length-replicate, List·getD-append}
 use lib.Seq.{take-at, drop-append-add}
 use Rattle.page_tree.specs.Rows.{All}
 use Rattle.index_table.specs.Bytes.{number, bytesOf, table}
-use Rattle.index_table.specs.Layout.{Layout, Ref, entrySize, pageSize, countOf, firstRef, refAt, refsOf, refBytes, rowBytes, pageOf}
+use Rattle.index_table.specs.Layout.{Layout, Ref, entrySize, pageSize, pageStart, pageBytes, countOf, firstRef, refAt, refsOf, refBytes, rowBytes, pageOf}
 use Rattle.index_table.proofs.ListLaws.{length-table, getD-table, table-ext, table-shift}
-use Rattle.index_table.proofs.NumberLaws.{length-bytes, number-bytes}
+use Rattle.index_table.proofs.NumberLaws.{length-bytes, number-bytes, Bytes, drop-bytes, take-bytes, number-fits}
 
 -- ---- the entries that are read
 
@@ -120,3 +120,18 @@ refs-page-of L head row long two count fit =
     (table-ext (refAt L (pageOf L head row)) (λ i. firstRef (L .pointer) (drop (entrySize L * i) (rowBytes (L .pointer) row ++ spare L head row long))) 0 (length row)
     (λ k a b. ap (firstRef (L .pointer)) (behind-head L head row long (entrySize L * k)))
     ∙ row-back L row (spare L head row long) fit)
+
+-- ---- the pointers that are read
+
+each-fits : (L : Layout) (page : List ℕ) → Bytes page → (i n : ℕ) → Fitting L (table (refAt L page) i n)
+unfolding table refAt firstRef
+each-fits L page h i zero = tt
+each-fits L page h i (suc n) = (
+  number-fits (L .pointer) (drop 1 (drop (L .head + entrySize L * i) page)) (drop-bytes 1 (drop (L .head + entrySize L * i) page) (drop-bytes (L .head + entrySize L * i) page h)),
+  each-fits L page h (suc i) n,
+)
+
+-- The pointers of a page's entries fit their bytes.
+pub refs-fit : (L : Layout) (b : List ℕ) (p : ℕ) → Bytes b → Fitting L (refsOf L (pageBytes L b p))
+unfolding refsOf pageBytes
+refs-fit L b p h = each-fits L (pageBytes L b p) (take-bytes (pageSize L) (drop (pageStart L p) b) (drop-bytes (pageStart L p) b h)) 0 (countOf (pageBytes L b p))
