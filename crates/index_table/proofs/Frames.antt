@@ -6,11 +6,11 @@ use Prim.Native.Nat.{ℕ, zero, suc, _≤_, _<_}
 use native.Mathlib.Omega.{arith}
 use lib.ListN.{length, getD}
 use Rattle.page_tree.specs.Rows.{All}
-use Rattle.index_table.specs.Layout.{Layout, Ref, pageSize, pageStart, Within, pageBytes, refsOf, pageOf, store}
+use Rattle.index_table.specs.Layout.{Layout, Ref, pageSize, pageStart, Within, pageBytes, refsOf, pageOf, Fitting, store}
 use Rattle.index_table.specs.Pages.{Pages, pagesAt, nodeAt, same, met, metAll}
 use Rattle.index_table.specs.Soundness.{SoundBelow}
 use Rattle.index_table.proofs.PageBytes.{page-beyond, page-stored, other-page}
-use Rattle.index_table.proofs.PageRows.{Fitting, length-refs, length-page-of, refs-page-of}
+use Rattle.index_table.proofs.PageRows.{length-refs, length-page-of, refs-page-of}
 use Rattle.index_table.proofs.PageCounts.{same-self, same-cases}
 
 -- ---- the entries of one page

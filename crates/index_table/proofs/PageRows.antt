@@ -6,9 +6,8 @@ use native.Mathlib.Omega.{arith}
 use native.Mathlib.Nat.{mul-zero, mul-suc, mul-sub, mul-le-mul-left}
 use lib.ListN.{length, getD, drop, replicate, length-append, length-replicate, List·getD-append}
 use lib.Seq.{take-at, drop-append-add}
-use Rattle.page_tree.specs.Rows.{All}
 use Rattle.index_table.specs.Bytes.{number, bytesOf, table}
-use Rattle.index_table.specs.Layout.{Layout, Ref, entrySize, pageSize, pageStart, pageBytes, countOf, firstRef, refAt, refsOf, refBytes, rowBytes, pageOf}
+use Rattle.index_table.specs.Layout.{Layout, Ref, entrySize, pageSize, pageStart, pageBytes, countOf, firstRef, refAt, refsOf, refBytes, rowBytes, pageOf, Fitting}
 use Rattle.index_table.proofs.ListLaws.{length-table, getD-table, table-ext, table-shift}
 use Rattle.index_table.proofs.NumberLaws.{length-bytes, number-bytes, Bytes, drop-bytes, take-bytes, number-fits}
 
@@ -80,10 +79,6 @@ module _ (L : Layout) (head : List ℕ) (row : List Ref) (long : length head ≡
   page-of-rest =
       let m : entrySize L * length row ≡ length (rowBytes (L .pointer) row) + 0 = omega (arith, length-row-bytes (L .pointer) row) in
       behind-head (entrySize L * length row) ∙ rw m (drop-append-add (rowBytes (L .pointer) row) spare 0)
-
--- The pointers fit their bytes.
-abbrev pub Fitting : Layout → List Ref → Type 0
-Fitting L row = All (λ (x : Ref). x .1 < 256 ^ L .pointer) row
 
 first-back : (w : ℕ) (x : Ref) (rest : List ℕ) → x .1 < 256 ^ w → firstRef w (refBytes w x ++ rest) ≡ x
 unfolding firstRef refBytes

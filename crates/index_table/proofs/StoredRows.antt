@@ -6,11 +6,11 @@ use native.Mathlib.Omega.{arith}
 use lib.ListN.{length, getD, drop, replicate}
 use Rattle.page_tree.specs.Rows.{All, Closed}
 use Rattle.index_table.specs.Bytes.{AllZero, table}
-use Rattle.index_table.specs.Layout.{Layout, Ref, entrySize, pageSize, Within, pageBytes, levelOf, countOf, refAt, refsOf, pageOf, store}
+use Rattle.index_table.specs.Layout.{Layout, layoutOf, Ref, entrySize, pageSize, Within, pageBytes, levelOf, countOf, refAt, refsOf, pageOf, Fitting, store}
 use Rattle.index_table.specs.Pages.{pagesAt, nodeAt, same, met, metAll}
 use Rattle.index_table.specs.Soundness.{SoundBelow, Cleared}
 use Rattle.index_table.proofs.PageBytes.{page-stored}
-use Rattle.index_table.proofs.PageRows.{Fitting, length-page-of, page-of-head, page-of-rest}
+use Rattle.index_table.proofs.PageRows.{length-page-of, page-of-head, page-of-rest}
 use Rattle.index_table.proofs.Frames.{stored-refs, store-apart-row}
 
 -- ---- zeros
@@ -50,6 +50,9 @@ pub record HeadOf (L : Layout) (n : ℕ) (row : List Ref) (head : List ℕ) : Ty
   pub two : 1 < L .head
   pub level : getD head 0 0 ≡ n
   pub count : getD head 1 0 ≡ length row
+
+pub row-page-head : (e level : ℕ) (row : List Ref) → HeadOf (layoutOf e) level row (level ∷ length row ∷ [])
+row-page-head e level row = record { long = refl; two = omega arith; level = refl; count = refl }
 
 module _ {L : Layout} {n : ℕ} {row : List Ref} {head : List ℕ} (h : HeadOf L n row head) where
   pub page-of-level : levelOf (pageOf L head row) ≡ n
