@@ -21,7 +21,7 @@ refs-beyond L b p h = length-refs L (pageBytes L b p) ∙ ap (λ (l : List ℕ).
 
 module _ (L : Layout) (b : List ℕ) (p : ℕ) where
   -- A row that is stored is read, and every other page is read as before.
-  pub stored-refs : (head : List ℕ) (row : List Ref) → length head ≡ L .head → 1 < L .head → getD head 1 0 ≡ length row → length row ≤ L .entries → Fitting L row → Within L b p
+  pub stored-refs : (head : List ℕ) (row : List Ref) → length head ≡ L .head → 1 < L .head → getD head 1 0 ≡ length row → length row ≤ L .entries → Fitting (L .pointer) row → Within L b p
       → pagesAt L (store L b p (pageOf L head row)) p ≡ row
   stored-refs head row long two count few fit within =
       ap (refsOf L) (page-stored L b p (pageOf L head row) (length-page-of L head row long few) within) ∙ refs-page-of L head row long two count fit

@@ -84,7 +84,7 @@ first-back : (w : ℕ) (x : Ref) (rest : List ℕ) → x .1 < 256 ^ w → firstR
 unfolding firstRef refBytes
 first-back w x rest h = ap (λ (n : ℕ). (x .0, n)) (ap number (take-at (bytesOf w (x .1)) rest w (length-bytes w (x .1))) ∙ number-bytes w (x .1) h)
 
-row-back : (L : Layout) (row : List Ref) (rest : List ℕ) → Fitting L row
+row-back : (L : Layout) (row : List Ref) (rest : List ℕ) → Fitting (L .pointer) row
     → table (λ i. firstRef (L .pointer) (drop (entrySize L * i) (rowBytes (L .pointer) row ++ rest))) 0 (length row) ≡ row
 unfolding rowBytes table
 row-back L [] rest h = refl
@@ -107,7 +107,7 @@ row-back L (x ∷ row) rest h =
         rw (m, append-assoc (refBytes (L .pointer) x) (rowBytes (L .pointer) row) rest) (drop-append-add (refBytes (L .pointer) x) (rowBytes (L .pointer) row ++ rest) (entrySize L * k))
 
 -- The row that was written is read, where the head's count says its length and the pointers fit.
-pub refs-page-of : (L : Layout) (head : List ℕ) (row : List Ref) → length head ≡ L .head → 1 < L .head → getD head 1 0 ≡ length row → Fitting L row
+pub refs-page-of : (L : Layout) (head : List ℕ) (row : List Ref) → length head ≡ L .head → 1 < L .head → getD head 1 0 ≡ length row → Fitting (L .pointer) row
     → refsOf L (pageOf L head row) ≡ row
 unfolding refsOf refAt
 refs-page-of L head row long two count fit =
@@ -118,7 +118,7 @@ refs-page-of L head row long two count fit =
 
 -- ---- the pointers that are read
 
-each-fits : (L : Layout) (page : List ℕ) → Bytes page → (i n : ℕ) → Fitting L (table (refAt L page) i n)
+each-fits : (L : Layout) (page : List ℕ) → Bytes page → (i n : ℕ) → Fitting (L .pointer) (table (refAt L page) i n)
 unfolding table refAt firstRef
 each-fits L page h i zero = tt
 each-fits L page h i (suc n) = (
@@ -127,6 +127,6 @@ each-fits L page h i (suc n) = (
 )
 
 -- The pointers of a page's entries fit their bytes.
-pub refs-fit : (L : Layout) (b : List ℕ) (p : ℕ) → Bytes b → Fitting L (refsOf L (pageBytes L b p))
+pub refs-fit : (L : Layout) (b : List ℕ) (p : ℕ) → Bytes b → Fitting (L .pointer) (refsOf L (pageBytes L b p))
 unfolding refsOf pageBytes
 refs-fit L b p h = each-fits L (pageBytes L b p) (take-bytes (pageSize L) (drop (pageStart L p) b) (drop-bytes (pageStart L p) b h)) 0 (countOf (pageBytes L b p))

@@ -69,7 +69,7 @@ module _ {L : Layout} {n : ℕ} {row : List Ref} {head : List ℕ} (h : HeadOf L
   }
 
 -- A row is stored in a page that is not met below it.
-module _ (L : Layout) (P n : ℕ) (b : List ℕ) (p : ℕ) (row : List Ref) (head : List ℕ) (heads : HeadOf L n row head) (few : length row ≤ L .entries) (fit : Fitting L row)
+module _ (L : Layout) (P n : ℕ) (b : List ℕ) (p : ℕ) (row : List Ref) (head : List ℕ) (heads : HeadOf L n row head) (few : length row ≤ L .entries) (fit : Fitting (L .pointer) row)
     (within : Within L b p) (apart : metAll n (pagesAt L b) row p ≡ 0) where
   abbrev after : List ℕ
   after = store L b p (pageOf L head row)

@@ -72,8 +72,8 @@ unfoldable pub pageOf : Layout → List ℕ → List Ref → List ℕ
 pageOf L head row = head ++ rowBytes (L .pointer) row ++ replicate (entrySize L * (L .entries - length row)) 0
 
 -- The pointers of a row fit their bytes.
-abbrev pub Fitting : Layout → List Ref → Type 0
-Fitting L row = All (λ (x : Ref). x .1 < 256 ^ L .pointer) row
+abbrev pub Fitting : ℕ → List Ref → Type 0
+Fitting pointer row = All (λ (x : Ref). x .1 < 256 ^ pointer) row
 
 -- "Page: level, count, then entries": the page of a level with a row.
 abbrev pub rowPage : ℕ → ℕ → List Ref → List ℕ
