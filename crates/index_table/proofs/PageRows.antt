@@ -4,8 +4,8 @@ use mathlib.Core.List.{List, [], _∷_, _++_, append-assoc}
 use Prim.Native.Nat.{ℕ, zero, suc, _+_, _*_, _-_, _≤_, _<_, _^_}
 use native.Mathlib.Omega.{arith}
 use native.Mathlib.Nat.{mul-zero, mul-suc, mul-sub, mul-le-mul-left}
-use lib.ListN.{length, getD, drop, replicate, length-append, length-replicate, List·getD-append}
-use lib.Seq.{take-at, drop-append-add}
+use lib.ListN.{length, getD, take, drop, replicate, length-append, length-replicate, List·getD-append}
+use lib.Seq.{take-suc, drop-cons, take-at, drop-append-add}
 use Rattle.index_table.specs.Bytes.{number, bytesOf, table}
 use Rattle.index_table.specs.Layout.{Layout, Ref, entrySize, pageSize, pageStart, pageBytes, countOf, firstRef, refAt, refsOf, refBytes, rowBytes, pageOf, Fitting}
 use Rattle.index_table.proofs.ListLaws.{length-table, getD-table, table-ext, table-shift}
@@ -22,6 +22,15 @@ length-refs L page = length-table (refAt L page) 0 (countOf page)
 pub getD-refs : (L : Layout) (page : List ℕ) (i : ℕ) (d : Ref) → i < countOf page → getD (refsOf L page) i d ≡ refAt L page i
 unfolding refsOf
 getD-refs L page i d h = getD-table (refAt L page) 0 (countOf page) i d h ∙ ap (refAt L page) (let e : 0 + i ≡ i = omega arith in e)
+
+-- One entry more of those passed, and one less of those left.
+pub take-refs : (L : Layout) (page : List ℕ) (i : ℕ) → i < countOf page → take (suc i) (refsOf L page) ≡ take i (refsOf L page) ++ refAt L page i ∷ []
+take-refs L page i h =
+    take-suc (refsOf L page) i (0, 0) (omega (arith, length-refs L page)) ∙ ap (λ (x : Ref). take i (refsOf L page) ++ x ∷ []) (getD-refs L page i (0, 0) h)
+
+pub drop-refs : (L : Layout) (page : List ℕ) (i : ℕ) → i < countOf page → drop i (refsOf L page) ≡ refAt L page i ∷ drop (suc i) (refsOf L page)
+drop-refs L page i h =
+    drop-cons (refsOf L page) i (0, 0) (omega (arith, length-refs L page)) ∙ ap (λ (x : Ref). x ∷ drop (suc i) (refsOf L page)) (getD-refs L page i (0, 0) h)
 
 -- ---- the bytes that are written
 
