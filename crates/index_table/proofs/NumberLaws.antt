@@ -8,6 +8,7 @@ use lib.ListN.{length, getD, take, drop, length-append, length-take}
 use lib.Seq.{getD-drop}
 use Rattle.index_table.specs.Bytes.{numberAfter, number, bytesOf}
 
+-- k bytes of a number are k.
 pub length-bytes : (k n : ℕ) → length (bytesOf k n) ≡ k
 unfolding bytesOf
 length-bytes zero n = refl
@@ -26,13 +27,14 @@ number-bytes (suc k) n h =
     let p : 256 ^ suc k ≡ 256 * 256 ^ k = pow-succ' 256 k in
     number-snoc 0 (bytesOf k (n / 256)) (n % 256) ∙ omega (arith, number-bytes k (n / 256) (omega arith))
 
--- Two bytes: the number that they are, and the bytes of a number that fits them.
+-- The number of two bytes.
 pub number-two : (l : List ℕ) → 2 ≤ length l → number (take 2 l) ≡ getD l 0 0 * 256 + getD l 1 0
 unfolding numberAfter
 number-two [] h = absurd (omega arith)
 number-two (x ∷ []) h = absurd (omega arith)
 number-two (x ∷ y ∷ l) h = omega arith
 
+-- The two bytes of a number that fits them.
 pub bytes-two : (n : ℕ) → n < 65536 → bytesOf 2 n ≡ n / 256 ∷ n % 256 ∷ []
 unfolding bytesOf
 bytes-two n h = let m : n / 256 % 256 ≡ n / 256 = omega arith in rw m
@@ -43,9 +45,11 @@ bytes-two n h = let m : n / 256 % 256 ≡ n / 256 = omega arith in rw m
 abbrev pub Bytes : List ℕ → Type 0
 Bytes l = (i : ℕ) → getD l i 0 < 256
 
+-- So is each that is left,
 pub drop-bytes : (n : ℕ) (l : List ℕ) → Bytes l → Bytes (drop n l)
 drop-bytes n l h i = rw (getD-drop n l i 0) (h (n + i))
 
+-- and each that is taken.
 pub take-bytes : (n : ℕ) (l : List ℕ) → Bytes l → Bytes (take n l)
 take-bytes zero l h i = omega arith
 take-bytes (suc n) [] h i = omega arith

@@ -23,27 +23,31 @@ pub getD-refs : (L : Layout) (page : List ℕ) (i : ℕ) (d : Ref) → i < count
 unfolding refsOf
 getD-refs L page i d h = getD-table (refAt L page) 0 (countOf page) i d h ∙ ap (refAt L page) (let e : 0 + i ≡ i = omega arith in e)
 
--- One entry more of those passed, and one less of those left.
+-- One entry more of those passed.
 pub take-refs : (L : Layout) (page : List ℕ) (i : ℕ) → i < countOf page → take (suc i) (refsOf L page) ≡ take i (refsOf L page) ++ refAt L page i ∷ []
 take-refs L page i h =
     take-suc (refsOf L page) i (0, 0) (omega (arith, length-refs L page)) ∙ ap (λ (x : Ref). take i (refsOf L page) ++ x ∷ []) (getD-refs L page i (0, 0) h)
 
+-- One entry less of those left.
 pub drop-refs : (L : Layout) (page : List ℕ) (i : ℕ) → i < countOf page → drop i (refsOf L page) ≡ refAt L page i ∷ drop (suc i) (refsOf L page)
 drop-refs L page i h =
     drop-cons (refsOf L page) i (0, 0) (omega (arith, length-refs L page)) ∙ ap (λ (x : Ref). x ∷ drop (suc i) (refsOf L page)) (getD-refs L page i (0, 0) h)
 
 -- ---- the bytes that are written
 
+-- An entry has a byte and those of its pointer.
 pub length-ref-bytes : (w : ℕ) (x : Ref) → length (refBytes w x) ≡ suc w
 unfolding refBytes
 length-ref-bytes w x = ap suc (length-bytes w (x .1))
 
+-- A row has the bytes of its entries.
 pub length-row-bytes : (w : ℕ) (xs : List Ref) → length (rowBytes w xs) ≡ suc w * length xs
 unfolding rowBytes
 length-row-bytes w [] = omega (arith, mul-zero (suc w))
 length-row-bytes w (x ∷ xs) =
     length-append (refBytes w x) (rowBytes w xs) ∙ omega (arith, length-ref-bytes w x, length-row-bytes w xs, mul-suc (suc w) (length xs))
 
+-- A row behind another.
 pub row-bytes-append : (w : ℕ) (xs ys : List Ref) → rowBytes w (xs ++ ys) ≡ rowBytes w xs ++ rowBytes w ys
 unfolding rowBytes
 row-bytes-append w [] ys = refl
@@ -55,6 +59,7 @@ module _ (L : Layout) (head : List ℕ) (row : List Ref) (long : length head ≡
   spare : List ℕ
   spare = replicate (entrySize L * (L .entries - length row)) 0
 
+  -- A page that is written has the bytes of a page.
   pub length-page-of : length row ≤ L .entries → length (pageOf L head row) ≡ pageSize L
   unfolding pageOf
   length-page-of h =

@@ -20,22 +20,26 @@ pub record Written (b₀ : List ℕ) (at : ℕ) (z : List Ref) (from i next : �
   pub place : next ≡ at + 3 * (i - from)
   pub bytes : b ≡ over b₀ at (rowBytes 2 (slice from i z))
 
+-- Nothing is written yet.
 pub written-none : (b : List ℕ) (at : ℕ) (z : List Ref) (from : ℕ) → Written b at z from from at b
 unfolding rowBytes
 written-none b at z from = record { long = refl; passed = omega arith; place = omega arith; bytes = rw (slice-empty from z) (over-none b at) }
 
+-- How long a part is.
 pub length-part : (ds ps : List ℕ) → Full ds ps → (from to : ℕ) → to ≤ 319 → length (slice from to (zip ds ps)) ≡ to - from
 length-part ds ps full from to h = length-slice from to (zip ds ps) (omega (arith, length-zip ds ps full))
 
--- The next entry has room, and its pointer fits.
+-- The next entry has room.
 pub next-room : {b₀ : List ℕ} {at : ℕ} {z : List Ref} {from i next to : ℕ} {b : List ℕ} → Written b₀ at z from i next b → i < to → at + 3 * (to - from) ≤ length b₀ → next + 3 ≤ length b
 next-room h l r = omega (arith, h .long, h .place, h .passed)
 
+-- The pointer of an entry of the part fits.
 pub pointer-fits : (ds ps : List ℕ) → Full ds ps → (from i to : ℕ) → from ≤ i → i < to → to ≤ 319 → Fitting 2 (slice from to (zip ds ps)) → getD ps i 0 < 65536
 pointer-fits ds ps full from i to h g k f =
     let x : getD (zip ds ps) i (0, 0) .1 < 65536 = all-part (λ (x : Ref). x .1 < 65536) (zip ds ps) from i to (0, 0) h g (omega (arith, length-zip ds ps full)) f in
     rw (place-at ds ps full i (omega arith)) at x
 
+-- One entry more.
 pub written-more : {b₀ : List ℕ} {at : ℕ} {from i next : ℕ} {b : List ℕ} (ds ps : List ℕ) → Full ds ps → i < 319 → getD ps i 0 < 65536 → Written b₀ at (zip ds ps) from i next b
     → Written b₀ at (zip ds ps) from (i + 1) (next + 3) (set (set (set b next (getD ds i 0)) (next + 1) (getD ps i 0 / 256)) (next + 2) (getD ps i 0 % 256))
 unfolding rowBytes
@@ -52,6 +56,7 @@ written-more {b₀} {at} {from} {i} {next} {b} ds ps full l f h =
           (sym (rw (slice-more from i z (0, 0) (h .passed) k, place-at ds ps full i l, row-bytes-append 2 (slice from i z) (x ∷ []), append-nil (refBytes 2 x))));
     }
 
+-- All entries of the part.
 pub written-all : {b₀ : List ℕ} {at : ℕ} {z : List Ref} {from i next to : ℕ} {b : List ℕ} → Written b₀ at z from i next b → i ≤ to → to ≤ i → b ≡ over b₀ at (rowBytes 2 (slice from to z))
 written-all {i = i} {to = to} h x y = let e : to ≡ i = omega arith in rw e (h .bytes)
 
