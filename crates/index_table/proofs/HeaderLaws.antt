@@ -1,9 +1,9 @@
 -- The header's numbers after it is written, and after pages are stored (01, "Pages"). Assumes nothing.
 use mathlib.Core.Path.{_≡_, refl, sym, ap, ap₂, _∙_}
-use mathlib.Core.List.{List, [], _∷_, _++_}
-use Prim.Native.Nat.{ℕ, zero, suc, _+_, _*_, _≤_, _<_, _/_, _%_}
+use mathlib.Core.List.{List, [], _∷_}
+use Prim.Native.Nat.{ℕ, suc, _+_, _*_, _≤_, _<_, _/_, _%_}
 use native.Mathlib.Omega.{arith}
-use lib.ListN.{length, getD, take, drop, set, replicate}
+use lib.ListN.{length, getD, take, drop, replicate}
 use lib.Seq.{getD-take}
 use Rattle.index_table.specs.Bytes.{bytesOf, over}
 use Rattle.index_table.specs.Layout.{Layout, layoutOf, pageSize, pageStart, pageBytes, store}
@@ -30,6 +30,7 @@ module _ (b b′ : List ℕ) (front : take 16 b′ ≡ take 16 b) where
   byte : (k : ℕ) → k < 16 → getD b′ k 0 ≡ getD b k 0
   byte k h = sym (getD-take 16 b′ k 0 h) ∙ ap (λ (l : List ℕ). getD l k 0) front ∙ getD-take 16 b k 0 h
 
+  -- The first 16 bytes are the header.
   pub front-header : HeaderFrom b b′ (rootOf b) (heldOf b)
   front-header = record {
     width = byte 0 (omega arith);
@@ -69,6 +70,7 @@ module _ (b : List ℕ) (n : ℕ) (fits : n < 65536) (long : 16 ≤ length b) wh
   spare-behind : (i : ℕ) → i + 2 ≤ 8 → spareOf (over b i (bytesOf 2 n)) ≡ spareOf b
   spare-behind i h = part-behind b i 8 8 (bytesOf 2 n) (omega (arith, length-bytes 2 n))
 
+  -- Another root.
   pub root-header : HeaderFrom b (withRoot b n) n (heldOf b)
   root-header = record {
     width = before 4 0 (omega arith);
@@ -79,6 +81,7 @@ module _ (b : List ℕ) (n : ℕ) (fits : n < 65536) (long : 16 ≤ length b) wh
     spare = spare-behind 4 (omega arith);
   }
 
+  -- Another number of records held.
   pub held-header : HeaderFrom b (withHeld b n) (rootOf b) n
   held-header = record {
     width = before 6 0 (omega arith);
@@ -89,15 +92,17 @@ module _ (b : List ℕ) (n : ℕ) (fits : n < 65536) (long : 16 ≤ length b) wh
     spare = spare-behind 6 (omega arith);
   }
 
-  -- The pages stay.
+  -- The pages stay under another root,
   pub root-pages : (e p : ℕ) → pageBytes (layoutOf e) (withRoot b n) p ≡ pageBytes (layoutOf e) b p
   root-pages e p = page-behind (layoutOf e) b 4 (bytesOf 2 n) p (omega (arith, length-bytes 2 n))
 
+  -- and under another number of records held.
   pub held-pages : (e p : ℕ) → pageBytes (layoutOf e) (withHeld b n) p ≡ pageBytes (layoutOf e) b p
   held-pages e p = page-behind (layoutOf e) b 6 (bytesOf 2 n) p (omega (arith, length-bytes 2 n))
 
 -- ---- a whole header
 
+-- A header has 16 bytes.
 pub length-header : (w e p root held : ℕ) → length (headerBytes w e p root held) ≡ 16
 unfolding headerBytes bytesOf
 length-header w e p root held = refl
@@ -126,6 +131,7 @@ module _ (w e p root held : ℕ) (b : List ℕ) (long : 16 ≤ length b) (pages-
       → getD (over b 0 (headerBytes w e p root held)) k 0 ≡ getD (w ∷ e ∷ p / 256 ∷ p % 256 ∷ root / 256 ∷ root % 256 ∷ held / 256 ∷ held % 256 ∷ replicate 8 0) k 0
   read k h = at k h ∙ ap (λ (l : List ℕ). getD l k 0) header-bytes-are
 
+  -- A header that is written is read back.
   pub header-written : HeaderIs w e p root held (over b 0 (headerBytes w e p root held))
   header-written = record {
     width = read 0 (omega arith);

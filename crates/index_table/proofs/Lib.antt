@@ -11,3 +11,4 @@ pub mod StoredRows
 pub mod UsedPages
 pub mod HeaderLaws
 pub mod Writing
+pub mod RowWriting

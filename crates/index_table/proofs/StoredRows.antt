@@ -1,20 +1,21 @@
 -- A row that is stored in a page: what is read below it, and that it is sound (01, "Pages"). Assumes nothing.
-use mathlib.Core.Path.{_≡_, refl, sym, ap, ap₂, _∙_}
-use mathlib.Core.List.{List, [], _∷_, _++_, map}
+use mathlib.Core.Path.{_≡_, refl, ap, ap₂, _∙_}
+use mathlib.Core.List.{List, [], _∷_, map}
 use Prim.Native.Nat.{ℕ, zero, suc, _+_, _*_, _-_, _≤_, _<_}
 use native.Mathlib.Omega.{arith}
-use lib.ListN.{length, getD, take, drop, replicate, length-replicate, drop-of-length-le}
+use lib.ListN.{length, getD, drop, replicate}
 use Rattle.page_tree.specs.Rows.{All, Closed}
 use Rattle.index_table.specs.Bytes.{AllZero, table}
-use Rattle.index_table.specs.Layout.{Layout, Ref, entrySize, pageSize, Within, pageBytes, levelOf, countOf, refAt, refsOf, pageOf, store}
+use Rattle.index_table.specs.Layout.{Layout, layoutOf, Ref, entrySize, pageSize, Within, pageBytes, levelOf, countOf, refAt, refsOf, pageOf, Fitting, store}
 use Rattle.index_table.specs.Pages.{pagesAt, nodeAt, same, met, metAll}
-use Rattle.index_table.specs.Soundness.{SizedPage, SoundBelow, Cleared}
+use Rattle.index_table.specs.Soundness.{SoundBelow, Cleared}
 use Rattle.index_table.proofs.PageBytes.{page-stored}
-use Rattle.index_table.proofs.PageRows.{Fitting, length-page-of, page-of-head, page-of-rest, refs-page-of}
+use Rattle.index_table.proofs.PageRows.{length-page-of, page-of-head, page-of-rest}
 use Rattle.index_table.proofs.Frames.{stored-refs, store-apart-row}
 
 -- ---- zeros
 
+-- Zeros are all zero.
 pub zeros-all : (n : ℕ) → AllZero (replicate n 0)
 zeros-all zero = tt
 zeros-all (suc n) = (refl, zeros-all n)
@@ -34,11 +35,12 @@ zeros-count zero = refl
 zeros-count (suc zero) = refl
 zeros-count (suc (suc n)) = refl
 
--- A page of zeros has no entries, and is cleared.
+-- A page of zeros has no entries.
 pub zeros-refs : (L : Layout) (n : ℕ) → refsOf L (replicate n 0) ≡ []
 unfolding refsOf table
 zeros-refs L n = ap (λ (k : ℕ). table (refAt L (replicate n 0)) 0 k) (zeros-count n)
 
+-- A page of zeros is cleared.
 pub zeros-cleared : (L : Layout) (n : ℕ) → Cleared L (replicate n 0)
 zeros-cleared L n = record { free = λ h. zeros-all n; unused = zeros-drop (L .head + entrySize L * countOf (replicate n 0)) n }
 
@@ -51,10 +53,16 @@ pub record HeadOf (L : Layout) (n : ℕ) (row : List Ref) (head : List ℕ) : Ty
   pub level : getD head 0 0 ≡ n
   pub count : getD head 1 0 ≡ length row
 
+-- The head that a row's page has.
+pub row-page-head : (e level : ℕ) (row : List Ref) → HeadOf (layoutOf e) level row (level ∷ length row ∷ [])
+row-page-head e level row = record { long = refl; two = omega arith; level = refl; count = refl }
+
 module _ {L : Layout} {n : ℕ} {row : List Ref} {head : List ℕ} (h : HeadOf L n row head) where
+  -- Its level is read back.
   pub page-of-level : levelOf (pageOf L head row) ≡ n
   page-of-level = page-of-head L head row (h .long) 0 (omega (arith, h .two)) ∙ h .level
 
+  -- Its count is the length of the row.
   pub page-of-count : countOf (pageOf L head row) ≡ length row
   page-of-count = page-of-head L head row (h .long) 1 (h .two) ∙ h .count
 
@@ -66,7 +74,7 @@ module _ {L : Layout} {n : ℕ} {row : List Ref} {head : List ℕ} (h : HeadOf L
   }
 
 -- A row is stored in a page that is not met below it.
-module _ (L : Layout) (P n : ℕ) (b : List ℕ) (p : ℕ) (row : List Ref) (head : List ℕ) (heads : HeadOf L n row head) (few : length row ≤ L .entries) (fit : Fitting L row)
+module _ (L : Layout) (P n : ℕ) (b : List ℕ) (p : ℕ) (row : List Ref) (head : List ℕ) (heads : HeadOf L n row head) (few : length row ≤ L .entries) (fit : Fitting (L .pointer) row)
     (within : Within L b p) (apart : metAll n (pagesAt L b) row p ≡ 0) where
   abbrev after : List ℕ
   after = store L b p (pageOf L head row)
@@ -85,6 +93,7 @@ module _ (L : Layout) (P n : ℕ) (b : List ℕ) (p : ℕ) (row : List Ref) (hea
   unfolding nodeAt
   stored-node nil c = ap (map (nodeAt nil n (pagesAt L after))) refs ∙ store-apart-row L b p (pageOf L head row) sized n row apart .nodes nil
 
+  -- What is met below such an entry: the page, and what is met below the row.
   pub stored-meets : (c q : ℕ) → met (suc n) (pagesAt L after) (c, p) q ≡ same p q + metAll n (pagesAt L b) row q
   unfolding met
   stored-meets c q = ap (λ (l : List Ref). same p q + metAll n (pagesAt L after) l q) refs ∙ ap (λ (k : ℕ). same p q + k) (store-apart-row L b p (pageOf L head row) sized n row apart .meets q)

@@ -1,16 +1,16 @@
 -- How many pages are in use: as many as the tree has, and what storing a page changes. Assumes nothing.
-use mathlib.Core.Path.{_≡_, refl, sym, ap, _∙_}
+use mathlib.Core.Path.{_≡_, sym, ap, _∙_}
 use mathlib.Core.Logic.{_⊎_, inl, inr}
 use mathlib.Core.List.{List, [], _∷_, map}
-use Prim.Native.Nat.{ℕ, zero, suc, _+_, _≤_, _<_}
+use Prim.Native.Nat.{ℕ, zero, suc, _+_, _<_}
 use native.Mathlib.Omega.{arith}
 use lib.ListN.{length}
 use Rattle.page_tree.specs.Rows.{All, sum}
-use Rattle.page_tree.specs.Tree.{Node, pageCount, pagesOf}
+use Rattle.page_tree.specs.Tree.{pageCount, pagesOf}
 use Rattle.index_table.specs.Layout.{Layout, Ref, pageSize, store}
 use Rattle.index_table.specs.Pages.{pagesAt, nodeAt, treeAt, rootRef, same, met, metAll, inUse, sumTo, usedPages}
 use Rattle.index_table.specs.Soundness.{SoundBelow, SoundPages}
-use Rattle.index_table.proofs.PageCounts.{same-self, same-cases, sum-to-ext, sum-to-add, sum-to-zero, sum-to-same}
+use Rattle.index_table.proofs.PageCounts.{same-cases, sum-to-ext, sum-to-add, sum-to-zero, sum-to-same}
 use Rattle.index_table.proofs.Frames.{other-refs}
 
 -- ---- the tree's pages

@@ -1,15 +1,18 @@
 // Pages and the header's numbers written into the index table's bytes.
 ghost use mathlib.Core.Path.{_≡_};
-ghost use Prim.Native.Nat.{_+_, _*_, _<_, _≤_};
+ghost use Prim.Native.Nat.{_+_, _*_, _-_, _<_, _≤_};
 ghost use lib.ListN.{length, replicate};
 ghost use Rattle.index_table.specs.Bytes.{bytesOf, over};
-ghost use Rattle.index_table.specs.Layout.{Within, layoutOf, pageStart, pageSize, refBytes, store};
+ghost use Rattle.index_table.specs.Layout.{Within, layoutOf, pageStart, pageSize, refBytes, rowBytes, rowPage, Fitting, store};
 ghost use Rattle.index_table.specs.Header.{headerBytes, withRoot, withHeld};
 ghost use Rattle.index_table.specs.Pages.{pagesAt, usedPages};
+ghost use Rattle.index_table.specs.Storing.{Storable};
+ghost use Rattle.page_tree.specs.Row.{partOf};
 use crate::layout::PageNo;
 use crate::layout::count;
 use crate::layout::page_start;
 use crate::layout::wide;
+use page_tree::Row;
 
 // Two bytes, high byte first.
 fn write_word(index: &mut [u8], at: usize, n: u16)
@@ -69,6 +72,44 @@ pub fn clear(index: &mut [u8], at: usize, n: usize)
         index[at + i] = 0;
         i += 1;
     }
+}
+
+// The entries of a row from one place up to another, one behind the other.
+fn write_row(index: &mut [u8], at: usize, row: Row, from: usize, to: usize)
+    requires { ⌜ (at + 3 * (to - from) ≤ length (now index)) × (from ≤ to) × (to ≤ 319) × Fitting 2 (partOf row from to) ⌝ }
+    ensures { λ r. ⌜ now (index .exit) ≡ over (now (index .entry)) at (rowBytes 2 (partOf row from to)) ⌝ }
+{
+    let mut i = from;
+    let mut next = at;
+    while i < to {
+        let p = row.pointers[i];
+        index[next] = row.depths[i];
+        index[next + 1] = (p / 256) as u8;
+        index[next + 2] = (p % 256) as u8;
+        next += 3;
+        i += 1;
+    }
+}
+
+// The page of a level with the entries of a row from one place up to another; its unused entries are zero.
+pub fn store_page(
+    index: &mut [u8],
+    e: u8,
+    page: PageNo,
+    level: u8,
+    row: Row,
+    from: usize,
+    to: usize,
+)
+    requires { ⌜ Storable e (now index) (page .0) row from to ⌝ }
+    ensures { λ r. ⌜ now (index .exit) ≡ store (layoutOf e) (now (index .entry)) (page .0) (rowPage e level (partOf row from to)) ⌝ }
+{
+    let at = page_start(e, page);
+    let n = to - from;
+    index[at] = level;
+    index[at + 1] = n as u8;
+    write_row(index, at + 2, row, from, to);
+    clear(index, at + 2 + 3 * n, 3 * (wide(e) - n));
 }
 
 // The page is free: all its bytes are zero.

@@ -1,11 +1,11 @@
 -- The loop's invariant: i zeros stand from `at` on. Assumes nothing.
 use lib.ListN.{length, replicate, length-set}
 use Rattle.index_table.proofs.Writing.{zeros-more, zeros-end}
-use mathlib.Core.Path.{_≡_, ap, _∙_}
+use mathlib.Core.Path.{_≡_}
 use Prim.Native.Nat.{_-_, _≤_}
 use native.Mathlib.Omega.{arith}
 use Rattle.index_table.specs.Bytes.{over}
-use Rattle.index_table.proofs.ListLaws.{over-none, length-over}
+use Rattle.index_table.proofs.ListLaws.{over-none}
 use borrow.Author.Needs.{needs}
 use Rattle.index_table.proofs.write.clear.Statement.{statement}
 use Rattle.index_table.proofs.write.clear.Tie as tie

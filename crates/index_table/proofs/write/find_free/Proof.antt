@@ -1,8 +1,8 @@
 -- The loop's invariant: all pages before page i are in use. Assumes nothing.
-use mathlib.Core.Path.{_≡_, sym, _∙_}
+use mathlib.Core.Path.{sym, _∙_}
 use Prim.Native.Nat.{_-_, _≤_}
 use native.Mathlib.Omega.{arith}
-use Rattle.index_table.specs.Layout.{layoutOf, pageBytes}
+use Rattle.index_table.specs.Layout.{layoutOf}
 use Rattle.index_table.specs.Pages.{pagesAt, usedPages}
 use Rattle.index_table.proofs.PageBytes.{within-table}
 use Rattle.index_table.proofs.PageRows.{length-refs}
