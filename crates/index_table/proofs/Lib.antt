@@ -1,0 +1,14 @@
+pub mod ListLaws
+pub mod NumberLaws
+pub mod PageBytes
+pub mod PageRows
+pub mod PageReads
+pub mod PageCounts
+pub mod Frames
+pub mod SoundNodes
+pub mod SoundTables
+pub mod StoredRows
+pub mod UsedPages
+pub mod HeaderLaws
+pub mod Writing
+pub mod RowWriting

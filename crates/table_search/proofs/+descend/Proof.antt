@@ -1,0 +1,206 @@
+-- Level by level: the page is searched, and on level 0 the entry is the answer. Assumes nothing.
+use borrow.Author.Needs.{needs}
+use mathlib.Core.Path.{_≡_, sym, subst, _∙_}
+use native.Mathlib.Omega.{arith}
+use Rattle.table_search.proofs.Descents.{descend-within, descend-seek, descend-inside, descend-leaf, descend-down, descend-up}
+use Prim.Native.Nat.{ℕ, _<_}
+use borrow.Fn.Kinds.{In}
+use borrow.Fn.PlainCycle.{Measures, is, falls, and}
+use Rattle.table_search.proofs.descend.Reads as descend
+use Rattle.table_search.proofs.descend.Kinds as descend-kinds
+use Rattle.table_search.proofs.+descend.Lts-descend as descend-lts
+use Rattle.index_table.proofs.layout.child.Reads as child-reads
+use Rattle.index_table.proofs.layout.depth.Reads as depth-reads
+use Rattle.index_table.proofs.layout.pointer.Reads as pointer-reads
+use Rattle.table_search.proofs.deep.Reads as deep-reads
+use Rattle.table_search.proofs.seek.Reads as seek-reads
+use Rattle.table_search.proofs.+descend.{statement}
+use Rattle.table_search.proofs.+descend.Tie.{close}
+
+abbrev μ-descend : Measures 1 descend-kinds.ps ℕ
+μ-descend κs a = a .1 .1 .1 .0
+
+abbrev descend-at : ℕ → In 1 descend-kinds.ps
+descend-at t = and 1 descend-kinds.ps (is 1 descend-kinds.ps μ-descend t) descend.Pre
+
+abbrev descend-below : ℕ → In 1 descend-kinds.ps
+descend-below t = and 1 descend-kinds.ps (falls 1 descend-kinds.ps _<_ μ-descend t) descend.Pre
+
+descend-seek-requires : (t : ℕ) → descend-lts.Need-seek-requires (
+  seek-reads.Asked,
+  seek-reads.Learnt,
+  depth-reads.Asked,
+  depth-reads.Learnt,
+  deep-reads.Asked,
+  deep-reads.Learnt,
+  pointer-reads.Asked,
+  pointer-reads.Learnt,
+  child-reads.Asked,
+  child-reads.Learnt,
+  descend-below t,
+  descend.Post,
+) (descend-at t) descend.Post
+descend-seek-requires t c κs = descend-seek (c .before .pre .1)
+
+descend-depth-requires : (t : ℕ) → descend-lts.Need-depth-requires (
+  seek-reads.Asked,
+  seek-reads.Learnt,
+  depth-reads.Asked,
+  depth-reads.Learnt,
+  deep-reads.Asked,
+  deep-reads.Learnt,
+  pointer-reads.Asked,
+  pointer-reads.Learnt,
+  child-reads.Asked,
+  child-reads.Learnt,
+  descend-below t,
+  descend.Post,
+) (descend-at t) descend.Post
+descend-depth-requires t c κs = (descend-within (c .before .before .before .pre .1), descend-inside (c .before .before .before .pre .1) _ (c .before .seek .ensures))
+
+descend-deep-requires : (t : ℕ) → descend-lts.Need-deep-requires (
+  seek-reads.Asked,
+  seek-reads.Learnt,
+  depth-reads.Asked,
+  depth-reads.Learnt,
+  deep-reads.Asked,
+  deep-reads.Learnt,
+  pointer-reads.Asked,
+  pointer-reads.Learnt,
+  child-reads.Asked,
+  child-reads.Learnt,
+  descend-below t,
+  descend.Post,
+) (descend-at t) descend.Post
+descend-deep-requires t c κs = search needs
+
+descend-pointer-requires : (t : ℕ) → descend-lts.Need-pointer-requires (
+  seek-reads.Asked,
+  seek-reads.Learnt,
+  depth-reads.Asked,
+  depth-reads.Learnt,
+  deep-reads.Asked,
+  deep-reads.Learnt,
+  pointer-reads.Asked,
+  pointer-reads.Learnt,
+  child-reads.Asked,
+  child-reads.Learnt,
+  descend-below t,
+  descend.Post,
+) (descend-at t) descend.Post
+descend-pointer-requires t c κs =
+    let at = c .before .before .before in
+    (descend-within (at .before .before .pre .1), descend-inside (at .before .before .pre .1) _ (at .seek .ensures))
+
+descend-returns : (t : ℕ) → descend-lts.Need-returns (
+  seek-reads.Asked,
+  seek-reads.Learnt,
+  depth-reads.Asked,
+  depth-reads.Learnt,
+  deep-reads.Asked,
+  deep-reads.Learnt,
+  pointer-reads.Asked,
+  pointer-reads.Learnt,
+  child-reads.Asked,
+  child-reads.Learnt,
+  descend-below t,
+  descend.Post,
+) (descend-at t) descend.Post
+descend-returns t c =
+    let at = c .before .before .before .before in
+    descend-leaf _ (at .before .before .pre .1) _ (at .seek .ensures) (c .before .before .before .if1 .taken) _ _ (c .before .deep .ensures ∙ c .before .before .depth .ensures) (c .pointer .ensures .0) (c .pointer .ensures .1)
+
+descend-child-requires : (t : ℕ) → descend-lts.Need-child-requires (
+  seek-reads.Asked,
+  seek-reads.Learnt,
+  depth-reads.Asked,
+  depth-reads.Learnt,
+  deep-reads.Asked,
+  deep-reads.Learnt,
+  pointer-reads.Asked,
+  pointer-reads.Learnt,
+  child-reads.Asked,
+  child-reads.Learnt,
+  descend-below t,
+  descend.Post,
+) (descend-at t) descend.Post
+descend-child-requires t c κs = (descend-within (c .before .before .before .pre .1), descend-inside (c .before .before .before .pre .1) _ (c .before .seek .ensures))
+
+descend-sub-descend : (t : ℕ) → descend-lts.Need-sub-descend (
+  seek-reads.Asked,
+  seek-reads.Learnt,
+  depth-reads.Asked,
+  depth-reads.Learnt,
+  deep-reads.Asked,
+  deep-reads.Learnt,
+  pointer-reads.Asked,
+  pointer-reads.Learnt,
+  child-reads.Asked,
+  child-reads.Learnt,
+  descend-below t,
+  descend.Post,
+) (descend-at t) descend.Post
+descend-sub-descend t c = search needs
+
+descend-descend-requires : (t : ℕ) → descend-lts.Need-descend-requires (
+  seek-reads.Asked,
+  seek-reads.Learnt,
+  depth-reads.Asked,
+  depth-reads.Learnt,
+  deep-reads.Asked,
+  deep-reads.Learnt,
+  pointer-reads.Asked,
+  pointer-reads.Learnt,
+  child-reads.Asked,
+  child-reads.Learnt,
+  descend-below t,
+  descend.Post,
+) (descend-at t) descend.Post
+descend-descend-requires t c κs =
+    let at = c .before .before in
+    (omega (arith, at .before .before .pre .0), descend-down _ (c .before .if1 .left) (at .before .before .pre .1) _ (at .seek .ensures) _ (c .child .ensures))
+
+descend-returns-2 : (t : ℕ) → descend-lts.Need-returns-2 (
+  seek-reads.Asked,
+  seek-reads.Learnt,
+  depth-reads.Asked,
+  depth-reads.Learnt,
+  deep-reads.Asked,
+  deep-reads.Learnt,
+  pointer-reads.Asked,
+  pointer-reads.Learnt,
+  child-reads.Asked,
+  child-reads.Learnt,
+  descend-below t,
+  descend.Post,
+) (descend-at t) descend.Post
+descend-returns-2 t c =
+    let at = c .before .before .before in
+    descend-up _ (c .before .before .if1 .left) (at .before .before .pre .1) _ (at .seek .ensures) _ (c .before .child .ensures) _ (c .descend .ensures)
+
+pub +descend-spec : {M : Type 1} → statement M
++descend-spec = close μ-descend λ t. descend-lts.spec (
+  seek-reads.Asked,
+  seek-reads.Learnt,
+  depth-reads.Asked,
+  depth-reads.Learnt,
+  deep-reads.Asked,
+  deep-reads.Learnt,
+  pointer-reads.Asked,
+  pointer-reads.Learnt,
+  child-reads.Asked,
+  child-reads.Learnt,
+  descend-below t,
+  descend.Post,
+)
+    (descend-at t)
+    descend.Post
+    (descend-seek-requires t)
+    (descend-depth-requires t)
+    (descend-deep-requires t)
+    (descend-pointer-requires t)
+    (descend-returns t)
+    (descend-child-requires t)
+    (descend-sub-descend t)
+    (descend-descend-requires t)
+    (descend-returns-2 t)

@@ -1,0 +1,204 @@
+-- The search from a page down: one level of it, in terms of the tree that the pages are read as. Assumes nothing.
+use mathlib.Core.Path.{_≡_, refl, sym, ap, subst, _∙_}
+use mathlib.Core.Logic.{_⊎_, inl, inr}
+use mathlib.Core.List.{List, [], _∷_, _++_, map, map-append}
+use Prim.Native.Nat.{ℕ, zero, suc, _+_, _-_, _^_, _≤_, _<_}
+use native.Mathlib.Omega.{arith}
+use lib.ListN.{length, getD, take, drop, length-append, length-drop}
+use lib.Seq.{split-at}
+use Rattle.leaf_list.specs.Entries.{Entry, entry, depthOf as entryDepth}
+use Rattle.page_tree.specs.Rows.{All, Closed, flats, lastDepth}
+use Rattle.page_tree.specs.Tree.{Node, depth, leaves}
+use Rattle.page_tree.specs.Walk.{rest, walk}
+use Rattle.page_tree.specs.Finding.{findBelow, nowhere}
+use Rattle.page_tree.proofs.ListLaws.{all-left, all-right}
+use Rattle.page_tree.proofs.WalkPlaces.{Passes, positionsAfter, Stops, find-at}
+use Rattle.index_table.specs.Layout.{Layout, Ref, Within, layoutOf, pageStart, pageBytes, refAt}
+use Rattle.index_table.specs.Pages.{Pages, pagesAt, nodeAt, recordOf}
+use Rattle.index_table.specs.Soundness.{SoundBelow}
+use Rattle.index_table.proofs.PageBytes.{within-table}
+use Rattle.index_table.proofs.SoundNodes.{sound-depths}
+use Rattle.table_search.specs.declared.Spot.{Spot}
+use Rattle.table_search.specs.declared.Leaf.{Leaf}
+use Rattle.table_search.specs.Places.{leftFrom, depthOf, SeekPre, Stopped, DescendPre, Descended}
+use Rattle.table_search.proofs.Stops.{all-at, read-entry}
+
+-- Things with the depths of a row's entries are searched as the row is.
+module _ {A : Type 0} (d : A → ℕ) (f : Ref → A) where
+  passes-map : (bs : List ℕ) (row : List Ref) → All (λ x. d (f x) ≡ x .0) row → Passes depthOf bs row → Passes d bs (map f row)
+  passes-map bs [] h p = tt
+  passes-map [] (x ∷ row) h p = absurd p
+  passes-map (b ∷ bs) (x ∷ row) h p = rw (h .0) (p .0, passes-map (rest (x .0) b bs) row (h .1) (p .1))
+
+  positions-map : (bs : List ℕ) (row : List Ref) → All (λ x. d (f x) ≡ x .0) row → positionsAfter d bs (map f row) ≡ positionsAfter depthOf bs row
+  positions-map bs [] h = refl
+  positions-map [] (x ∷ row) h = refl
+  positions-map (b ∷ bs) (x ∷ row) h = ap (λ (m : ℕ). positionsAfter d (rest m b bs) (map f row)) (h .0) ∙ positions-map (rest (x .0) b bs) row (h .1)
+
+  last-map : (τ : ℕ) (row : List Ref) → All (λ x. d (f x) ≡ x .0) row → lastDepth d τ (map f row) ≡ lastDepth depthOf τ row
+  last-map τ [] h = refl
+  last-map τ (x ∷ row) h = ap (λ (m : ℕ). lastDepth d m (map f row)) (h .0) ∙ last-map (x .0) row (h .1)
+
+-- The depths of what stands above level 0 are depths of level 0.
+last-low : (w n τ : ℕ) (page : List (Node n)) → ((x : Node n) → All (λ e. entryDepth e ≤ w) (leaves n x) → depth n x ≤ w) → τ ≤ w
+    → All (λ e. entryDepth e ≤ w) (flats (leaves n) page) → lastDepth (depth n) τ page ≤ w
+last-low w n τ [] f h a = h
+last-low w n τ (x ∷ page) f h a =
+    last-low w n (depth n x) page f (f x (all-left (λ e. entryDepth e ≤ w) (leaves n x) (flats (leaves n) page) a))
+    (all-right (λ e. entryDepth e ≤ w) (leaves n x) (flats (leaves n) page) a)
+
+pub depth-low : (w n : ℕ) (x : Node n) → All (λ e. entryDepth e ≤ w) (leaves n x) → depth n x ≤ w
+depth-low w zero (entry d p) a = a .0
+depth-low w (suc n) page a = last-low w n 0 page (depth-low w n) (omega arith) a
+
+-- The leaves of one thing among a row's.
+leaves-at : (w n : ℕ) (f : Ref → Node n) (row : List Ref) (i : ℕ) → i < length row → All (λ e. entryDepth e ≤ w) (flats (leaves n) (map f row))
+    → All (λ e. entryDepth e ≤ w) (leaves n (f (getD row i (0, 0))))
+leaves-at w n f [] i h a = absurd (omega arith)
+leaves-at w n f (x ∷ row) zero h a = all-left (λ e. entryDepth e ≤ w) (leaves n (f x)) (flats (leaves n) (map f row)) a
+leaves-at w n f (x ∷ row) (suc i) h a = leaves-at w n f row i (omega arith) (all-right (λ e. entryDepth e ≤ w) (leaves n (f x)) (flats (leaves n) (map f row)) a)
+
+depths-low : (w n : ℕ) (f : Ref → Node n) (row : List Ref) → All (λ x. depth n (f x) ≡ x .0) row → All (λ e. entryDepth e ≤ w) (flats (leaves n) (map f row)) → All (λ x. x .0 ≤ w) row
+depths-low w n f [] h a = tt
+depths-low w n f (x ∷ row) h a = (
+  subst (λ (m : ℕ). m ≤ w) (h .0) (depth-low w n (f x) (all-left (λ e. entryDepth e ≤ w) (leaves n (f x)) (flats (leaves n) (map f row)) a)),
+  depths-low w n f row (h .1) (all-right (λ e. entryDepth e ≤ w) (leaves n (f x)) (flats (leaves n) (map f row)) a),
+)
+
+-- The last entry of a closed row closes it.
+closed-end : (c : ℕ) (row : List Ref) (i : ℕ) → Closed depthOf c row → suc i ≡ length row → getD row i (0, 0) .0 ≡ c
+closed-end c [] i h e = absurd h
+closed-end c (x ∷ []) zero h e = h
+closed-end c (x ∷ []) (suc i) h e = absurd (omega arith)
+closed-end c (x ∷ y ∷ row) zero h e = absurd (omega arith)
+closed-end c (x ∷ y ∷ row) (suc i) h e = closed-end c (y ∷ row) i (h .1) (omega arith)
+
+module _ {b : List ℕ} {e P n page w key position : ℕ} (pre : DescendPre b e P n page w key position) where
+  abbrev row : List Ref
+  row = pagesAt (layoutOf e) b page
+
+  abbrev node : Ref → Node n
+  node x = nodeAt 65535 n (pagesAt (layoutOf e) b) x
+
+  same : All (λ x. depth n (node x) ≡ x .0) row
+  same = sound-depths 65535 (layoutOf e) P b n row (pre .sound .2)
+
+  low : All (λ x. entryDepth x ≤ w) (flats (leaves n) (map node row))
+  unfolding nodeAt
+  low = pre .depths
+
+  pub descend-within : Within (layoutOf e) b page
+  descend-within = within-table (layoutOf e) P page b (pre .table) (pre .sound .0 .number)
+
+  -- A page of the way down can be searched.
+  pub descend-seek : SeekPre b e page w key position
+  descend-seek =
+      record {
+        within = descend-within;
+        some = pre .sound .0 .some;
+        few = pre .sound .0 .few;
+        depths = depths-low w n node row same low;
+        width = pre .width;
+        narrow = pre .narrow;
+        high = pre .high;
+      }
+
+  module _ {τ : ℕ} (s : Spot) (stop : Stopped w key position τ row s) where
+    abbrev y : Ref
+    y = getD row (s .at) (0, 0)
+
+    pub descend-inside : s .at < e
+    descend-inside = omega (arith, stop .inside, pre .sound .0 .few)
+
+    -- The entry found is before the next position.
+    stop-before : y .0 < s .position
+    stop-before = go (stop .stops)
+      where
+        go : (suc (s .at) ≡ length row) ⊎ (y .0 < s .position) → y .0 < s .position
+        go (inl h) = omega (arith, closed-end (pre .closing) row (s .at) (pre .sound .1) h, pre .before, stop .rise)
+        go (inr h) = h
+
+    same-passed : All (λ x. depth n (node x) ≡ x .0) (take (s .at) row)
+    same-passed = all-left (λ x. depth n (node x) ≡ x .0) (take (s .at) row) (y ∷ drop (suc (s .at)) row) (subst (All (λ x. depth n (node x) ≡ x .0)) (split-at row (s .at) (0, 0) (stop .inside)) same)
+
+    parted : map node row ≡ map node (take (s .at) row) ++ (node y ∷ map node (drop (suc (s .at)) row))
+    parted = ap (map node) (split-at row (s .at) (0, 0) (stop .inside)) ∙ map-append node (take (s .at) row) (y ∷ drop (suc (s .at)) row)
+
+    left-is : positionsAfter (depth n) (leftFrom w key position) (map node (take (s .at) row)) ≡ leftFrom w key (s .position)
+    left-is = positions-map (depth n) node (leftFrom w key position) (take (s .at) row) same-passed ∙ stop .left
+
+    trail-is : lastDepth (depth n) τ (map node (take (s .at) row)) ≡ s .trail
+    trail-is = last-map (depth n) node τ (take (s .at) row) same-passed ∙ stop .trail
+
+    -- The search below the page is the search below that entry, with the positions and the depth carried on.
+    pub descend-step : findBelow (suc n) (leftFrom w key position) τ (nodeAt 65535 (suc n) (pagesAt (layoutOf e) b) (0, page))
+        ≡ findBelow n (leftFrom w key (s .position)) (s .trail) (node y)
+    unfolding nodeAt
+    descend-step =
+        ap (walk (depth n) (λ bs t x xs. findBelow n bs t x) (λ x r. r) nowhere (leftFrom w key position) τ) parted
+        ∙ find-at (depth n) (λ bs t x xs. findBelow n bs t x) nowhere (leftFrom w key position) τ (map node (take (s .at) row)) (node y) (map node (drop (suc (s .at)) row))
+        (passes-map (depth n) node (leftFrom w key position) (take (s .at) row) same-passed (stop .passes))
+        (subst (λ (bs : List ℕ). Stops (depth n) bs (node y)) (sym left-is) (rw (all-at (λ x. depth n (node x) ≡ x .0) row (s .at) (stop .inside) same) stop-before))
+        ∙ (λ i. findBelow n (left-is i) (trail-is i) (node y))
+
+-- On level 0 the entry is the answer.
+pub descend-leaf : {b : List ℕ} {e P page w key position τ : ℕ} (n : ℕ) (pre : DescendPre b e P n page w key position) (s : Spot) → Stopped w key position τ (pagesAt (layoutOf e) b page) s → n ≡ 0
+    → (d p : ℕ) → d ≡ refAt (layoutOf e) (pageBytes (layoutOf e) b page) (s .at) .0 → p ≡ refAt (layoutOf e) (pageBytes (layoutOf e) b page) (s .at) .1 → p ≤ 65535
+    → Descended w key position τ n (pagesAt (layoutOf e) b) page (record { depth = d; pointer = p; position = s .position; trail = s .trail })
+unfolding nodeAt
+descend-leaf (suc n) pre s stop z d p hd hp l = absurd (omega arith)
+descend-leaf {b} {e} {P} {page} {w} {key} {position} {τ} zero pre s stop z d p hd hp l =
+    let q : refAt (layoutOf e) (pageBytes (layoutOf e) b page) (s .at) ≡ getD (pagesAt (layoutOf e) b page) (s .at) (0, 0) = read-entry (layoutOf e) b page (s .at) (stop .inside) in
+    record {
+      found = descend-step pre s stop ∙ ap (λ (x : Ref). (leftFrom w key (s .position), s .trail, entry (x .0) (recordOf 65535 (x .1)))) (sym q ∙ λ i. (sym hd i, sym hp i));
+      pointer-high = l;
+    }
+
+-- Above it, the child is a page of the way down, and what is found below it is what is found.
+module _ {b : List ℕ} {e P page w key position τ : ℕ} (n : ℕ) (pre : DescendPre b e P (suc n) page w key position) (s : Spot) (stop : Stopped w key position τ (pagesAt (layoutOf e) b page) s)
+    (below : ℕ) (is : below ≡ refAt (layoutOf e) (pageBytes (layoutOf e) b page) (s .at) .1) where
+  abbrev x : Ref
+  x = getD (pagesAt (layoutOf e) b page) (s .at) (0, 0)
+
+  pointed : below ≡ x .1
+  pointed = is ∙ ap (λ (z : Ref). z .1) (read-entry (layoutOf e) b page (s .at) (stop .inside))
+
+  pub descend-child : DescendPre b e P n below w key (s .position)
+  unfolding nodeAt
+  descend-child =
+      subst (λ (m : ℕ). DescendPre b e P n m w key (s .position)) (sym pointed)
+      (record {
+        closing = x .0;
+        sound = all-at (SoundBelow (layoutOf e) P (suc n) b) (pagesAt (layoutOf e) b page) (s .at) (stop .inside) (pre .sound .2);
+        before = stop-before pre s stop;
+        table = pre .table;
+        depths = leaves-at w (suc n) (nodeAt 65535 (suc n) (pagesAt (layoutOf e) b)) (pagesAt (layoutOf e) b page) (s .at) (stop .inside) (pre .depths);
+        width = pre .width;
+        narrow = pre .narrow;
+        high = stop .high;
+      })
+
+  pub descend-found : (r : Leaf) → Descended w key (s .position) (s .trail) n (pagesAt (layoutOf e) b) below r → Descended w key position τ (suc n) (pagesAt (layoutOf e) b) page r
+  unfolding nodeAt
+  descend-found r d =
+      record {
+        found = descend-step pre s stop ∙ ap (λ (m : ℕ). findBelow (suc n) (leftFrom w key (s .position)) (s .trail) (nodeAt 65535 (suc n) (pagesAt (layoutOf e) b) (0, m))) (sym pointed) ∙ d .found;
+        pointer-high = d .pointer-high;
+      }
+
+-- The same, from a level above 0 to the one below it.
+pub descend-down : {b : List ℕ} {e P page w key position τ : ℕ} (level : ℕ) → (level ≡ 0 → ⊥) → (pre : DescendPre b e P level page w key position) (s : Spot)
+    → Stopped w key position τ (pagesAt (layoutOf e) b page) s → (below : ℕ) → below ≡ refAt (layoutOf e) (pageBytes (layoutOf e) b page) (s .at) .1
+    → DescendPre b e P (level - 1) below w key (s .position)
+descend-down zero z pre s stop below is = absurd (z refl)
+descend-down {b} {e} {P} {page} {w} {key} {position} {τ} (suc n) z pre s stop below is =
+    let m : n ≡ suc n - 1 = omega arith in
+    subst (λ (l : ℕ). DescendPre b e P l below w key (s .position)) m (descend-child n pre s stop below is)
+
+pub descend-up : {b : List ℕ} {e P page w key position τ : ℕ} (level : ℕ) → (level ≡ 0 → ⊥) → (pre : DescendPre b e P level page w key position) (s : Spot)
+    → Stopped w key position τ (pagesAt (layoutOf e) b page) s → (below : ℕ) → below ≡ refAt (layoutOf e) (pageBytes (layoutOf e) b page) (s .at) .1
+    → (r : Leaf) → Descended w key (s .position) (s .trail) (level - 1) (pagesAt (layoutOf e) b) below r → Descended w key position τ level (pagesAt (layoutOf e) b) page r
+descend-up zero z pre s stop below is r d = absurd (z refl)
+descend-up {b} {e} {P} {page} {w} {key} {position} {τ} (suc n) z pre s stop below is r d =
+    let m : suc n - 1 ≡ n = omega arith in
+    descend-found n pre s stop below is r (subst (λ (l : ℕ). Descended w key (s .position) (s .trail) l (pagesAt (layoutOf e) b) below r) m d)

@@ -1,0 +1,3 @@
+pub mod NextPositions
+pub mod Stops
+pub mod Descents

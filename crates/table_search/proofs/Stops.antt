@@ -1,0 +1,94 @@
+-- The search of one page's row, entry by entry. Assumes nothing.
+use mathlib.Core.Path.{_≡_, refl, sym, ap, subst, _∙_}
+use mathlib.Core.Logic.{_⊎_, inl, inr}
+use mathlib.Core.Bool.{Bool, true, false, cond}
+use mathlib.Core.List.{List, [], _∷_, _++_}
+use Prim.Native.Nat.{ℕ, zero, suc, _+_, _^_, _≤_, _<_}
+use native.Mathlib.Omega.{arith}
+use native.Mathlib.Numerals.{add-one}
+use lib.Dec.{leb, eqb}
+use lib.ListN.{length, getD, take, drop}
+use lib.Seq.{take-suc}
+use borrow.Author.Tests.{le-leb, lt-leb, leb-true, leb-false, ne-eqb, eq-eqb}
+use Rattle.leaf_list.specs.Keys.{bits}
+use Rattle.leaf_list.specs.Search.{positions}
+use Rattle.page_tree.specs.Rows.{All, lastDepth}
+use Rattle.page_tree.specs.Walk.{rest}
+use Rattle.page_tree.proofs.WalkPlaces.{Passes, positionsAfter}
+use Rattle.index_table.specs.Layout.{Ref, Layout, layoutOf, refAt, pageBytes}
+use Rattle.index_table.specs.Pages.{pagesAt}
+use Rattle.index_table.proofs.PageRows.{length-refs, getD-refs}
+use Rattle.table_search.specs.declared.Spot.{Spot}
+use Rattle.table_search.specs.Places.{later, leftFrom, NextPosition, Passed, depthOf, SeekPre, Stopped}
+
+-- One entry more is passed.
+passes-snoc : (bs : List ℕ) (b : ℕ) (bs′ : List ℕ) (xs : List Ref) (y : Ref) → Passes depthOf bs xs → positionsAfter depthOf bs xs ≡ b ∷ bs′ → b ≤ y .0
+    → Passes depthOf bs (xs ++ (y ∷ [])) × (positionsAfter depthOf bs (xs ++ (y ∷ [])) ≡ rest (y .0) b bs′)
+passes-snoc bs b bs′ [] y p e h = rw e ((h, tt), refl)
+passes-snoc [] b bs′ (x ∷ xs) y p e h = absurd p
+passes-snoc (a ∷ more) b bs′ (x ∷ xs) y p e h =
+    let r = passes-snoc (rest (x .0) a more) b bs′ xs y (p .1) e h in
+    ((p .0, r .0), r .1)
+
+last-snoc : (τ : ℕ) (xs : List Ref) (y : Ref) → lastDepth depthOf τ (xs ++ (y ∷ [])) ≡ y .0
+last-snoc τ [] y = refl
+last-snoc τ (x ∷ xs) y = last-snoc (x .0) xs y
+
+-- The search before entry i: what was passed, the next position b and the depth t before.
+pub record Seeking (w key b₀ τ : ℕ) (row : List Ref) (b t i : ℕ) : Type 0 where
+  pub inside : i < length row
+  pub passes : Passes depthOf (leftFrom w key b₀) (take i row)
+  pub left : positionsAfter depthOf (leftFrom w key b₀) (take i row) ≡ leftFrom w key b
+  pub trail : lastDepth depthOf τ (take i row) ≡ t
+  pub rise : b₀ ≤ b
+  pub high : b ≤ w + 1
+
+pub seeking-start : (w key b τ : ℕ) (row : List Ref) → 1 ≤ length row → b ≤ w + 1 → Seeking w key b τ row b τ 0
+seeking-start w key b τ row h g = record { inside = omega arith; passes = tt; left = refl; trail = refl; rise = omega arith; high = g }
+
+pub seeking-more : (w key b₀ τ : ℕ) (row : List Ref) (b t i d b′ : ℕ) → Seeking w key b₀ τ row b t i → i + 1 < length row → d ≡ getD row i (0, 0) .0 → b ≤ d
+    → Passed w key b d b′ → Seeking w key b₀ τ row b′ d (i + 1)
+seeking-more w key b₀ τ row b t i d b′ s h e l p =
+    let y : Ref = getD row i (0, 0) in
+    let m : take (i + 1) row ≡ take i row ++ (y ∷ []) = ap (λ (n : ℕ). take n row) (add-one i) ∙ take-suc row i (0, 0) (s .inside) in
+    let r = passes-snoc (leftFrom w key b₀) b (later w key b) (take i row) y (s .passes) (s .left) (subst (λ (n : ℕ). b ≤ n) e l) in
+    record {
+      inside = h;
+      passes = rw m (r .0);
+      left = rw m (r .1 ∙ subst (λ (x : ℕ). rest x b (later w key b) ≡ leftFrom w key b′) e (p .left));
+      trail = rw m (last-snoc τ (take i row) y ∙ sym e);
+      rise = omega (arith, s .rise, p .rise);
+      high = p .high;
+    }
+
+pub seeking-stop : (w key b₀ τ : ℕ) (row : List Ref) (b t i d : ℕ) → Seeking w key b₀ τ row b t i → d ≡ getD row i (0, 0) .0 → d < b
+    → Stopped w key b₀ τ row (record { at = i; position = b; trail = t })
+seeking-stop w key b₀ τ row b t i d s e h =
+    record { inside = s .inside; passes = s .passes; left = s .left; trail = s .trail; rise = s .rise; high = s .high; stops = inr (omega arith) }
+
+pub seeking-end : (w key b₀ τ : ℕ) (row : List Ref) (b t i n : ℕ) → Seeking w key b₀ τ row b t i → n ≡ length row → n ≤ i + 1
+    → Stopped w key b₀ τ row (record { at = i; position = b; trail = t })
+seeking-end w key b₀ τ row b t i n s e h =
+    record { inside = s .inside; passes = s .passes; left = s .left; trail = s .trail; rise = s .rise; high = s .high; stops = inl (omega (arith, s .inside)) }
+
+-- What a passed entry leaves of the positions.
+pub passed-kept : (w key b d : ℕ) → (d ≡ b → ⊥) → b ≤ w + 1 → Passed w key b d b
+passed-kept w key b d h g = record { left = rw (ne-eqb d b h); rise = omega arith; high = g }
+
+pub passed-next : (w key b d r : ℕ) → d ≡ b → b ≤ w → NextPosition w key b r → Passed w key b d r
+passed-next w key b d r e h p = record { left = rw (eq-eqb d b e, le-leb b w h) (p .left); rise = omega (arith, p .above); high = p .within }
+
+-- What holds of every entry of a row holds of each.
+pub all-at : (P : Ref → Type 0) (row : List Ref) (i : ℕ) → i < length row → All P row → P (getD row i (0, 0))
+all-at P [] i h a = absurd (omega arith)
+all-at P (x ∷ row) zero h a = a .0
+all-at P (x ∷ row) (suc i) h a = all-at P row i (omega arith) (a .1)
+
+-- The depth and the pointer that are read of an entry are the row's.
+pub read-entry : (L : Layout) (b : List ℕ) (p i : ℕ) → i < length (pagesAt L b p) → refAt L (pageBytes L b p) i ≡ getD (pagesAt L b p) i (0, 0)
+read-entry L b p i h = sym (getD-refs L (pageBytes L b p) i (0, 0) (omega (arith, length-refs L (pageBytes L b p))))
+
+pub depth-low : {b : List ℕ} {e page w key position : ℕ} (i d : ℕ) → SeekPre b e page w key position → i < length (pagesAt (layoutOf e) b page)
+    → d ≡ refAt (layoutOf e) (pageBytes (layoutOf e) b page) i .0 → d ≤ w
+depth-low {b} {e} {page} {w} i d pre h q =
+    subst (λ (n : ℕ). n ≤ w) (sym (q ∙ ap (λ (x : Ref). x .0) (read-entry (layoutOf e) b page i h))) (all-at (λ x. x .0 ≤ w) (pagesAt (layoutOf e) b page) i h (pre .depths))

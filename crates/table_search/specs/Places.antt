@@ -1,0 +1,84 @@
+-- Where a search stands: what the code carries of the position list, and what a page's search answers. Assumes nothing.
+use mathlib.Core.Path.{_≡_}
+use mathlib.Core.Bool.{cond}
+use mathlib.Core.Logic.{_⊎_}
+use mathlib.Core.List.{List, [], _∷_}
+use Prim.Native.Nat.{ℕ, suc, _+_, _^_, _≤_, _<_}
+use lib.Dec.{leb}
+use lib.ListN.{length, getD, take, drop}
+use Rattle.leaf_list.specs.Keys.{bits}
+use Rattle.leaf_list.specs.Search.{positions}
+use Rattle.leaf_list.specs.Entries.{entry, depthOf as entryDepth}
+use Rattle.page_tree.specs.Rows.{All, lastDepth}
+use Rattle.page_tree.specs.Tree.{leaves}
+use Rattle.page_tree.specs.Walk.{rest}
+use Rattle.page_tree.specs.Finding.{findBelow}
+use Rattle.page_tree.proofs.WalkPlaces.{Passes, positionsAfter}
+use Rattle.index_table.specs.Layout.{Ref, Within, layoutOf, pageStart}
+use Rattle.index_table.specs.Pages.{Pages, pagesAt, nodeAt, recordOf}
+use Rattle.index_table.specs.Soundness.{SoundBelow}
+use Rattle.table_search.specs.declared.Spot.{Spot}
+use Rattle.table_search.specs.declared.Leaf.{Leaf}
+
+-- The positions after b: the key's one-bits behind it, then W + 1; none after W + 1.
+abbrev pub later : ℕ → ℕ → ℕ → List ℕ
+later w key b = cond (leb b w) (positions b (drop b (bits w key))) []
+
+-- The positions left where b is the next one.
+abbrev pub leftFrom : ℕ → ℕ → ℕ → List ℕ
+leftFrom w key b = b ∷ later w key b
+
+-- The next position after p bits of the key: the first one-bit behind them, or W + 1.
+pub record NextPosition (w key p r : ℕ) : Type 0 where
+  pub left : positions p (drop p (bits w key)) ≡ leftFrom w key r
+  pub above : p < r
+  pub within : r ≤ w + 1
+
+-- The next position once an entry of depth d was passed at the position b.
+pub record Passed (w key b d r : ℕ) : Type 0 where
+  pub left : rest d b (later w key b) ≡ leftFrom w key r
+  pub rise : b ≤ r
+  pub high : r ≤ w + 1
+
+-- The depth of a stored entry.
+abbrev pub depthOf : Ref → ℕ
+depthOf x = x .0
+
+-- A page in use within the bytes, whose depths have at most w bits, and a position of a key.
+pub record SeekPre (b : List ℕ) (e page w key position : ℕ) : Type 0 where
+  pub within : Within (layoutOf e) b page
+  pub some : 1 ≤ length (pagesAt (layoutOf e) b page)
+  pub few : length (pagesAt (layoutOf e) b page) ≤ e
+  pub depths : All (λ x. x .0 ≤ w) (pagesAt (layoutOf e) b page)
+  pub width : w ≤ 64
+  pub narrow : key < 2 ^ w
+  pub high : position ≤ w + 1
+
+-- The place where figure 6 stops in a page's row, begun with the position b and the depth τ before: the entries before it are passed, and it is
+-- shallower than the next position or the last.
+pub record Stopped (w key b τ : ℕ) (row : List Ref) (r : Spot) : Type 0 where
+  pub inside : r .at < length row
+  pub passes : Passes depthOf (leftFrom w key b) (take (r .at) row)
+  pub left : positionsAfter depthOf (leftFrom w key b) (take (r .at) row) ≡ leftFrom w key (r .position)
+  pub trail : lastDepth depthOf τ (take (r .at) row) ≡ r .trail
+  pub rise : b ≤ r .position
+  pub high : r .position ≤ w + 1
+  pub stops : (suc (r .at) ≡ length row) ⊎ (depthOf (getD row (r .at) (0, 0)) < r .position)
+
+-- A sound page of level n whose last depth, closing, is before the position: figure 6 stops in it.
+pub record DescendPre (b : List ℕ) (e P n page w key position : ℕ) : Type 0 where
+  pub closing : ℕ
+  pub sound : SoundBelow (layoutOf e) P (suc n) b (closing, page)
+  pub before : closing < position
+  pub table : pageStart (layoutOf e) P ≤ length b
+  pub depths : All (λ x. entryDepth x ≤ w) (leaves (suc n) (nodeAt 65535 (suc n) (pagesAt (layoutOf e) b) (closing, page)))
+  pub width : w ≤ 64
+  pub narrow : key < 2 ^ w
+  pub high : position ≤ w + 1
+
+-- The entry that figure 6 finds below a page of level n, with the positions left and the depth before it.
+pub record Descended (w key position τ n : ℕ) (pages : Pages) (page : ℕ) (r : Leaf) : Type 0 where
+  pub found :
+      findBelow (suc n) (leftFrom w key position) τ (nodeAt 65535 (suc n) pages (0, page))
+      ≡ (leftFrom w key (r .position), r .trail, entry (r .depth) (recordOf 65535 (r .pointer)))
+  pub pointer-high : r .pointer ≤ 65535
