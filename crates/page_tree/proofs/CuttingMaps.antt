@@ -31,7 +31,8 @@ module _ {A B : Type 0} (depth : A → ℕ) (depth′ : B → ℕ) (f : A → B)
       r t = cond t (depth x, x ∷ [], y ∷ z ∷ zs) (s .0, x ∷ s .1, s .2)
 
       step : (t : Bool)
-          → _≡_ {A = ℕ × List B × List B} (cond t (depth x, f x ∷ [], f y ∷ f z ∷ map f zs) (s .0, f x ∷ map f (s .1), map f (s .2))) (r t .0, map f (r t .1), map f (r t .2))
+          → _≡_ {A = ℕ × List B × List B} (cond t (depth x, f x ∷ [], f y ∷ f z ∷ map f zs) (s .0, f x ∷ map f (s .1), map f (s .2)))
+          (r t .0, map f (r t .1), map f (r t .2))
       step true = refl
       step false = refl
 
@@ -51,7 +52,8 @@ module _ {A B : Type 0} (depth : A → ℕ) (depth′ : B → ℕ) (f : A → B)
 
       step : (t : Bool) → cut depth′ E fuel (map f (s .1)) ≡ map (map f) (cut depth E fuel (s .1))
           → cut depth′ E fuel (map f (s .2)) ≡ map (map f) (cut depth E fuel (s .2))
-          → cond t (map f row ∷ []) (cut depth′ E fuel (map f (s .1)) ++ cut depth′ E fuel (map f (s .2))) ≡ map (map f) (cond t (row ∷ []) (cut depth E fuel (s .1) ++ cut depth E fuel (s .2)))
+          → cond t (map f row ∷ []) (cut depth′ E fuel (map f (s .1)) ++ cut depth′ E fuel (map f (s .2)))
+          ≡ map (map f) (cond t (row ∷ []) (cut depth E fuel (s .1) ++ cut depth E fuel (s .2)))
       step true p q = refl
       step false p q = rw (p, q) (sym (map-append (map f) (cut depth E fuel (s .1)) (cut depth E fuel (s .2))))
 

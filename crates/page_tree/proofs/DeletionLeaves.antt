@@ -42,7 +42,8 @@ sweep-leaves {X} step leavesX e r (x ∷ xs) =
 pub stepBelow-leaves : (n : ℕ) (x : Node n) (r : Left Entry)
     → foldr (over stepEntry) r (leaves n x) ≡ (flats (leaves n) (stepBelow n (r .1) x .0) ++ r .0, stepBelow n (r .1) x .1)
 stepBelow-leaves zero x r = rw (flats-single (stepEntry (r .1) x .0))
-stepBelow-leaves (suc n) x r = sweep-leaves (stepBelow n) (leaves n) (stepBelow-leaves n) r x ∙ rw (flats-unlessEmpty (leaves n) (sweep (stepBelow n) (r .1) x [] .0))
+stepBelow-leaves (suc n) x r =
+    sweep-leaves (stepBelow n) (leaves n) (stepBelow-leaves n) r x ∙ rw (flats-unlessEmpty (leaves n) (sweep (stepBelow n) (r .1) x [] .0))
 
 -- What is left of one thing, before the others of its row.
 abbrev pub onto : {A : Type 0} → Left A → List A → Left A
@@ -64,7 +65,7 @@ onto-leaves leavesX o xs after = rw (flats-append leavesX (o .0) xs, append-asso
 -- Below an entry, whatever stands after it on level 0: figure 11 on level 0, and the same is asked of the entry before.
 pub deleteBelow-leaves : (E n ν : ℕ) (bs : List ℕ) (τ : ℕ) (x : Node n) (after : List Entry) → Sound E n x → Rising bs → Beyond (depth n x) bs
     → (let o : Left (Node n) = deleteBelow n (nextDepth ν after) bs τ x in
-      _≡_ {A = Left Entry} (flats (leaves n) (o .0) ++ after, o .1) (deleteFlat ν bs τ (leaves n x ++ after)))
+    _≡_ {A = Left Entry} (flats (leaves n) (o .0) ++ after, o .1) (deleteFlat ν bs τ (leaves n x ++ after)))
 deleteBelow-leaves E zero ν bs τ x after s a e =
     rw (flats-single (strike τ (nextDepth ν after) x .0)) (sym (walk-stop (depth 0) (strikeFlat ν) (over stepEntry) ([], Idle) bs τ x after e))
 deleteBelow-leaves E (suc n) ν bs τ x after s a e =

@@ -101,7 +101,8 @@ module _ {A : Type 0} (depthA : A → ℕ) (leavesA : A → List Entry) (Good : 
       let o = k .give x p r d (omega (arith, q .0)) in
       rw (append-nil (step (Give d) x .0))
       (remains-stays depthA Good τ c (suc m) (step (Give d) x .0) (step (Give d) x .1)
-      (record { closed = rw (← (q .0)) (o .0 .closed); good = o .0 .good; short = omega (arith, o .0 .short) }) (calm-asked τ c (step (Give d) x .1) (o .1)))
+      (record { closed = rw (← (q .0)) (o .0 .closed); good = o .0 .good; short = omega (arith, o .0 .short) })
+      (calm-asked τ c (step (Give d) x .1) (o .1)))
   over-remains τ c m x (y ∷ ys) (Give d) p r h q =
       let o = k .give x p r d (q .1 .1) in
       let g = step (Give d) x .0 in
@@ -128,7 +129,8 @@ module _ {A : Type 0} (depthA : A → ℕ) (leavesA : A → List Entry) (Good : 
         (λ bs τ xs left. Neighbours (flats leavesA xs) → Remains depthA Good τ c (length xs) (left .0) (left .1))
         (λ bs τ x xs cl p a e r.
         let next = nextDepth ν (flats leavesA xs) in
-        remains-front depthA Good τ c x xs (at next bs τ x .0) (at next bs τ x .1) cl (p .1) (ok next bs τ x (p .0) (neighbours-left (leavesA x) (flats leavesA xs) r) a e))
+        remains-front depthA Good τ c x xs (at next bs τ x .0) (at next bs τ x .1) cl (p .1)
+        (ok next bs τ x (p .0) (neighbours-left (leavesA x) (flats leavesA xs) r) a e))
         (λ b bs τ x y ys left l p h ih r.
         over-remains τ c (suc (length ys)) x (left .0) (left .1) (p .0) (neighbours-left (leavesA x) (flats leavesA (y ∷ ys)) r) l
         (ih (neighbours-right (leavesA x) (flats leavesA (y ∷ ys)) r)))
@@ -153,6 +155,8 @@ deleteBelow-remains E zero ν bs τ (entry a p) s r y e = go (ltb a τ) (ltb ν 
     go false true l m = (ltb-false a τ l, ltb-true ν a m)
     go false false l m = (record { closed = refl; good = (tt, tt); short = omega arith }, tt)
 deleteBelow-remains E (suc n) ν bs τ x s r a e =
-    remains-page E n τ (depth (suc n) x) (length x) (strikeIn (depth n) (leaves n) (stepBelow n) (deleteBelow n) ν bs τ x .0) (strikeIn (depth n) (leaves n) (stepBelow n) (deleteBelow n) ν bs τ x .1)
+    remains-page E n τ (depth (suc n) x) (length x) (strikeIn (depth n) (leaves n) (stepBelow n) (deleteBelow n) ν bs τ x .0)
+    (strikeIn (depth n) (leaves n) (stepBelow n) (deleteBelow n) ν bs τ x .1)
     (s .0 .1)
-    (strikeIn-remains (depth n) (leaves n) (Sound E n) (stepBelow n) (stepBelow-laws E n) (deleteBelow n) (deleteBelow-remains E n) (depth (suc n) x) ν bs τ x (s .0 .0) (s .1) r a e)
+    (strikeIn-remains (depth n) (leaves n) (Sound E n) (stepBelow n) (stepBelow-laws E n) (deleteBelow n) (deleteBelow-remains E n)
+    (depth (suc n) x) ν bs τ x (s .0 .0) (s .1) r a e)
