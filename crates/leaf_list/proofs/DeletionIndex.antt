@@ -1,6 +1,6 @@
 -- Deletion by the index of the found entry, as a loop does it. Assumes nothing.
 use mathlib.Core.Path.{_≡_, refl, sym, _∙_, ap}
-use mathlib.Core.Bool.{Bool, true, false, cond, _&&_}
+use mathlib.Core.Bool.{cond, _&&_, Bool, true, false}
 use mathlib.Core.Option.{none, some, Option}
 use mathlib.Core.List.{List, _++_, _∷_, reverseAux, [], reverseAux-append}
 use Prim.Native.Nat.{ℕ, zero, suc, _<_, _≤_}
@@ -10,15 +10,10 @@ use lib.ListN.{getD, length, take, drop, set, drop-of-length-le}
 use lib.Seq.{take-suc, set-split, drop-cons}
 use borrow.Author.Tests.{ltb-true, ltb-false}
 use Rattle.leaf_list.specs.Keys.{Key}
-use Rattle.leaf_list.specs.Entries.{Entry, entry, depthOf, pointerOf}
+use Rattle.leaf_list.specs.Entries.{Entry, entry, isNil, pointerOf, depthOf}
 use Rattle.leaf_list.specs.Search.{positions}
 use Rattle.leaf_list.specs.Deletion.{dropDummies, deleteOther, deleteAt, deletion}
 use Rattle.leaf_list.proofs.Indexed.{put-back, foundIndex, search-index}
-
--- The entry is a dummy.
-abbrev pub isDummy : Entry → Bool
-isDummy (entry d none) = true
-isDummy (entry d (some r)) = false
 
 -- The empty herd's entry.
 abbrev pub sole : Entry
@@ -31,7 +26,7 @@ entryAt es i = getD es i sole
 -- Back over the dummies deeper than d that stand right before i.
 abbrev pub dummiesStart : List Entry → ℕ → ℕ → ℕ
 dummiesStart es d zero = zero
-dummiesStart es d (suc i) = let r : ℕ = dummiesStart es d i in cond (isDummy (entryAt es i) && ltb d (depthOf (entryAt es i))) r (suc i)
+dummiesStart es d (suc i) = let r : ℕ = dummiesStart es d i in cond (isNil (pointerOf (entryAt es i)) && ltb d (depthOf (entryAt es i))) r (suc i)
 
 -- The entry i is no 1-leaf.
 abbrev pub deleteOtherIndex : List Entry → ℕ → List Entry
@@ -59,7 +54,7 @@ dropDummies-index es d (suc i) h = rw (stack-take es i h) (go (entryAt es i) (st
   where
     go : (e : Entry) → reverseAux (take (suc i) es) [] ≡ e ∷ reverseAux (take i es) []
         → dropDummies d (reverseAux (take i es) []) ≡ reverseAux (take (dummiesStart es d i) es) []
-        → dropDummies d (e ∷ reverseAux (take i es) []) ≡ reverseAux (take (cond (isDummy e && ltb d (depthOf e)) (dummiesStart es d i) (suc i)) es) []
+        → dropDummies d (e ∷ reverseAux (take i es) []) ≡ reverseAux (take (cond (isNil (pointerOf e) && ltb d (depthOf e)) (dummiesStart es d i) (suc i)) es) []
     go (entry d′ (some r)) q ih = sym q
     go (entry d′ none) q ih = by (ltb d d′)
       where

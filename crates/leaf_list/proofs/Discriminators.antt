@@ -13,7 +13,7 @@ use Rattle.leaf_list.specs.Entries.{Entry, entry}
 use Rattle.leaf_list.specs.Herd.{Herd}
 use Rattle.leaf_list.specs.LeafList.{items}
 use Rattle.leaf_list.specs.Trie.{Trie, leaf, zero-only, one-only, fork, write, writeAll, trieList, trieOf}
-use Rattle.leaf_list.specs.Search.{firstExceeding, search, positions}
+use Rattle.leaf_list.specs.Search.{Place, firstExceeding, search, positions}
 use Rattle.leaf_list.proofs.Bits.{zeroBits-length, below-zeroBits, setBit-number, below-value, setBit-length, bits-length, value-number, value-zeroBits}
 use Rattle.leaf_list.proofs.Paths.{below-path, setBit-here}
 use Rattle.leaf_list.proofs.Tries.{Sized, lastRecord, Given, sized-reaches}
@@ -23,7 +23,7 @@ use Rattle.leaf_list.proofs.HerdItems.{items-lengths}
 use Rattle.leaf_list.proofs.Depths.{DepthsWithin, depthsWithin-writeAll}
 
 -- The first entry whose discriminator is above the key K, by bits; the depth 0 stands above every key.
-abbrev pub firstAbove : Key → List Entry → Key → List Entry → List Entry × List Entry
+abbrev pub firstAbove : Key → List Entry → Key → List Entry → Place
 firstAbove K before D [] = (before, [])
 firstAbove K before D (entry d p ∷ es) = cond (eqb d 0 || below K (setBit d D)) (before, entry d p ∷ es) (firstAbove K (entry d p ∷ before) (setBit d D) es)
 

@@ -15,9 +15,9 @@ use Rattle.leaf_list.specs.Trie.{Trie, leaf, zero-only, one-only, fork, 
 use Rattle.leaf_list.specs.Search.{search, positions}
 use Rattle.leaf_list.specs.Insertion.{trailing, insertion, insertAt}
 use Rattle.leaf_list.proofs.Bits.{bits-length}
-use Rattle.leaf_list.proofs.Tries.{Reaches, Given, Sized, sized-reaches}
+use Rattle.leaf_list.proofs.Tries.{Reaches, Given}
 use Rattle.leaf_list.proofs.Places.{remaining, stops-shallow, search-node}
-use Rattle.leaf_list.proofs.TrieOf.{trieOf-sized}
+use Rattle.leaf_list.proofs.TrieOf.{trieOf-reaches}
 use Rattle.leaf_list.proofs.HerdItems.{items-lengths}
 
 -- How many entries a search passes.
@@ -80,9 +80,9 @@ remaining-some (fork a b) (false ∷ k) l c rest g = remaining-some a k (suc l) 
 remaining-some (fork a b) (true ∷ k) l c rest g = remaining-some b k (suc l) c rest g
 
 -- So in a whole trie.
-pub search-some : (n : ℕ) (o : Option Trie) (k : Key) → Given (Sized n) o → length k ≡ n → 0 < length ((search [] (positions 0 k) (writeAll o)) .1)
-search-some n none k f h = rw (stops-shallow k 0 0 none [] [] (omega arith)) (omega arith)
-search-some n (some t) k f h = rw (search-node t k 0 0 [] [] (sized-reaches t n k f h) (omega arith)) (remaining-some t k 0 0 [] (sized-reaches t n k f h))
+pub search-some : (o : Option Trie) (k : Key) → Given (Reaches k) o → 0 < length (search [] (positions 0 k) (writeAll o) .1)
+search-some none k y = rw (stops-shallow k 0 0 none [] [] (omega arith)) (omega arith)
+search-some (some t) k y = rw (search-node t k 0 0 [] [] y (omega arith)) (remaining-some t k 0 0 [] y)
 
 -- The found entry stands in the list.
 pub foundIndex-trieList : (w x : ℕ) (s : Herd) → foundIndex (positions 0 (bits w x)) (trieList w s) < length (trieList w s)
@@ -90,5 +90,5 @@ foundIndex-trieList w x s =
     let i : ℕ = foundIndex (positions 0 (bits w x)) (trieList w s) in
     let p : 0 < length (drop i (trieList w s)) =
     rw (search-index (trieList w s) [] (positions 0 (bits w x))) at
-    (search-some w (trieOf w (items w s)) (bits w x) (trieOf-sized w (items w s) (items-lengths w s)) (bits-length w x)) in
+    (search-some (trieOf w (items w s)) (bits w x) (trieOf-reaches w (bits w x) (items w s) (bits-length w x) (items-lengths w s))) in
     omega (arith, length-drop i (trieList w s))

@@ -5,7 +5,7 @@ use mathlib.Core.Option.{none, some}
 use mathlib.Core.List.{[], List, _∷_}
 use Prim.Native.Nat.{ℕ, _<_, _^_, _≤_, _+_}
 use native.Mathlib.Omega.{arith}
-use lib.ListN.{length}
+use lib.ListN.{length, take}
 use Rattle.leaf_list.specs.Keys.{bits, firstDifference}
 use Rattle.leaf_list.specs.Entries.{Entry, entry, liveRecords, depthOf}
 use Rattle.leaf_list.specs.Herd.{Herd, Narrow, Sorted, KeysOf, lookup, add, remove, recordsOf}
@@ -14,6 +14,7 @@ use Rattle.leaf_list.specs.Trie.{trieOf}
 use Rattle.leaf_list.specs.Search.{search, positions, firstExceeding, find, Place}
 use Rattle.leaf_list.specs.Insertion.{insertion, trailing, leafDepth}
 use Rattle.leaf_list.specs.Deletion.{deletion}
+use Rattle.leaf_list.proofs.Lists.{All}
 use Rattle.leaf_list.proofs.Bits.{bits-length}
 use Rattle.leaf_list.proofs.TrieOf.{trieOf-sized, trieOf-pruned}
 use Rattle.leaf_list.proofs.HerdLaws.{narrow-add, sorted-add, lookup-absent, narrow-remove, sorted-remove}
@@ -23,6 +24,7 @@ use Rattle.leaf_list.proofs.InsertionCount.{insertion-length}
 use Rattle.leaf_list.proofs.Depths.{Closed, closed-writeAll, DepthsWithin, depthsWithin-writeAll, Neighbours, neighbours-writeAll}
 use Rattle.leaf_list.proofs.Discriminators.{search-trieList}
 use Rattle.leaf_list.proofs.Indexed.{foundIndex, foundIndex-trieList}
+use Rattle.leaf_list.proofs.PassedEntries.{passed-trieList}
 use Rattle.leaf_list.proofs.Literal.{twin}
 
 -- "it stops at the first entry whose discriminator exceeds the key"
@@ -91,3 +93,8 @@ neighbours-law w s q o = rw (twin w s q o) (neighbours-writeAll (trieOf w (items
 -- The found entry stands in the list.
 pub inside-law : (w x : ℕ) (s : Herd) → Narrow w s → Sorted s → foundIndex (positions 0 (bits w x)) (leafList w s) < length (leafList w s)
 inside-law w x s q o = rw (twin w s q o) (foundIndex-trieList w x s)
+
+-- The live entries before the found one have smaller keys: "from a" starts at the entry found for a.
+pub passed-law : (keyOf : ℕ → ℕ) (w x : ℕ) (s : Herd) → x < 2 ^ w → ((r : ℕ) → keyOf r < 2 ^ w) → Narrow w s → Sorted s → KeysOf keyOf s
+    → All (λ r. keyOf r < x) (liveRecords (take (foundIndex (positions 0 (bits w x)) (leafList w s)) (leafList w s)))
+passed-law keyOf w x s h n q o g = rw (twin w s q o) (passed-trieList keyOf w x s h n g)

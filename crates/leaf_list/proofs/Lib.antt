@@ -20,6 +20,7 @@ pub mod Discriminators
 pub mod Positions
 pub mod Indexed
 pub mod DeletionIndex
+pub mod PassedEntries
 pub mod Strings
 pub mod Stems
 pub mod Intervals
