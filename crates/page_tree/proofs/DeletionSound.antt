@@ -22,7 +22,7 @@ use Rattle.page_tree.proofs.WalkLaws.{walk-induction}
 use Rattle.page_tree.proofs.DeletionLeaves.{onto}
 use Rattle.page_tree.proofs.DeletionSteps.{neighbours-left, neighbours-right, Stays, Calm, StepLaws, over-calm, stays-page, stepBelow-laws}
 
--- Nothing is left of what c closed, after an entry of depth τ: the entry before is to take c, or c was no 1-leaf's.
+-- Nothing is left of what c closed, after an entry of depth τ: a 1-leaf went, whose depth c is to be taken; or another entry, no 1-leaf.
 abbrev pub Gone : ℕ → ℕ → Unwind → Type 0
 Gone τ c Idle = ⊥
 Gone τ c (Give d) = (d ≡ c) × (c < τ)
@@ -70,8 +70,7 @@ first-least depthA c x (y ∷ ys) h = omega (arith, h .0)
 
 -- What remains of the thing found, before the rest of its row.
 pub remains-front : {A : Type 0} (depthA : A → ℕ) (Good : A → Type 0) (τ c : ℕ) (x : A) (xs left : List A) (s : Unwind) → Closed depthA c (x ∷ xs)
-    → All Good xs
-    → Remains depthA Good τ (depthA x) 1 left s → Remains depthA Good τ c (suc (length xs)) (left ++ xs) s
+    → All Good xs → Remains depthA Good τ (depthA x) 1 left s → Remains depthA Good τ c (suc (length xs)) (left ++ xs) s
 remains-front depthA Good τ c x [] [] s h p w = rw h at w
 remains-front depthA Good τ c x (z ∷ zs) [] s h p w = (record { closed = h .1; good = p; short = omega arith }, gone-asked τ (depthA x) c s (h .0) w)
 remains-front depthA Good τ c x xs (y ∷ ys) s h p w = (
@@ -93,8 +92,7 @@ module _ {A : Type 0} (depthA : A → ℕ) (leavesA : A → List Entry) (Good : 
 
   -- One thing more on the left of what remains.
   pub over-remains : (τ c m : ℕ) (x : A) (ys : List A) (s : Unwind) → Good x → Neighbours (leavesA x) → c < depthA x
-      → Remains depthA Good (depthA x) c m ys s
-      → Remains depthA Good τ c (suc m) (step s x .0 ++ ys) (step s x .1)
+      → Remains depthA Good (depthA x) c m ys s → Remains depthA Good τ c (suc m) (step s x .0 ++ ys) (step s x .1)
   over-remains τ c m x [] Idle p r h q = absurd q
   over-remains τ c m x [] (Clear d) p r h q = absurd (omega (arith, q .0))
   over-remains τ c m x [] (Give d) p r h q =

@@ -42,6 +42,22 @@ pub bothLeaves-append : (t : Bool) (b d new old : ℕ) (after : List Entry) → 
 bothLeaves-append true b d new old after = refl
 bothLeaves-append false b d new old after = refl
 
+-- Dummies deeper than d before a row that d closes.
+dummies-closed : (d l b : ℕ) (ps : List ℕ) (es : List Entry) → d ≤ l → Closed (depth 0) d es → Closed (depth 0) d (dummies l b ps es)
+dummies-closed d l b [] es h g = g
+dummies-closed d l b (p ∷ ps) es h g = go (ltb l p) (ltb p b) refl (dummies-closed d l b ps es h g)
+  where
+    go : (t u : Bool) → ltb l p ≡ t → Closed (depth 0) d (dummies l b ps es)
+        → Closed (depth 0) d (cond (t && u) (entry p none ∷ dummies l b ps es) (dummies l b ps es))
+    go true true q i = closed-cons (depth 0) d (entry p none) (dummies l b ps es) (omega (arith, ltb-true l p q)) i
+    go true false q i = i
+    go false u q i = i
+
+-- The two leaves are such a row.
+bothLeaves-closed : (t : Bool) (b d new old : ℕ) → d < b → Closed (depth 0) d (bothLeaves t b d new old [])
+bothLeaves-closed true b d new old h = (h, refl)
+bothLeaves-closed false b d new old h = (h, refl)
+
 module _ (keyOf : ℕ → Key) (k : Key) (r : ℕ) where
   -- What stands for another key's leaf, before those after it; t says that b is below the leaf's depth.
   abbrev forLeaf : Bool → ℕ → ℕ → ℕ → List Entry → List Entry
@@ -83,21 +99,6 @@ module _ (keyOf : ℕ → Key) (k : Key) (r : ℕ) where
           ≡ insertInto keyOf k r (both t)
       go true e = ap (reverseAux before) (insertAt-append (trailing before) (entry d p) es)
       go false e = e
-
-  -- Dummies deeper than d before a row that d closes.
-  dummies-closed : (d l b : ℕ) (ps : List ℕ) (es : List Entry) → d ≤ l → Closed (depth 0) d es → Closed (depth 0) d (dummies l b ps es)
-  dummies-closed d l b [] es h g = g
-  dummies-closed d l b (p ∷ ps) es h g = go (ltb l p) (ltb p b) refl (dummies-closed d l b ps es h g)
-    where
-      go : (t u : Bool) → ltb l p ≡ t → Closed (depth 0) d (dummies l b ps es)
-          → Closed (depth 0) d (cond (t && u) (entry p none ∷ dummies l b ps es) (dummies l b ps es))
-      go true true q i = closed-cons (depth 0) d (entry p none) (dummies l b ps es) (omega (arith, ltb-true l p q)) i
-      go true false q i = i
-      go false u q i = i
-
-  bothLeaves-closed : (t : Bool) (b d new old : ℕ) → d < b → Closed (depth 0) d (bothLeaves t b d new old [])
-  bothLeaves-closed true b d new old h = (h, refl)
-  bothLeaves-closed false b d new old h = (h, refl)
 
   -- What stands for the entry found has its depth last and all others deeper: insertion never changes a page's last depth.
   pub insertAt-closed : (τ : ℕ) (e : Entry) (after : List Entry) → FoundOther keyOf k τ (e ∷ after)

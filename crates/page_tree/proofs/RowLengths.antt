@@ -22,8 +22,7 @@ longestBelow E new (suc n) bs τ page =
 
 -- A replacement that adds at most m entries makes no row longer than E + m, at any level.
 pub longestBelow-short : (E m : ℕ) (new : Replacement) → 1 ≤ E → (n : ℕ) (bs : List ℕ) (τ : ℕ) (x : Node n) → Sound E n x → Rising bs
-    → Beyond (depth n x) bs
-    → Fits m new (findBelow n bs τ x) → longestBelow E new n bs τ x ≤ E + m
+    → Beyond (depth n x) bs → Fits m new (findBelow n bs τ x) → longestBelow E new n bs τ x ≤ E + m
 longestBelow-short E m new one zero bs τ x s a e q = omega arith
 longestBelow-short E m new one (suc n) bs τ page s a e q =
     omega (
@@ -32,7 +31,8 @@ longestBelow-short E m new one (suc n) bs τ page s a e q =
       row-inPlace E m new one n bs τ page s a e q .few,
       walk-induction (depth n) (λ bs τ x xs. longestBelow E new n bs τ x) (λ x r. r) 0 (Sound E n) (depth (suc n) page)
           (λ bs τ xs l. Fits m new (findBelow (suc n) bs τ xs) → l ≤ E + m)
-          (λ bs τ x xs cl p a e q. longestBelow-short E m new one n bs τ x (p .0) a e (rw (walk-stop (depth n) find (λ x r. r) nowhere bs τ x xs e) at q))
+          (λ bs τ x xs cl p a e q. longestBelow-short E m new one n bs τ x (p .0) a e
+          (rw (walk-stop (depth n) find (λ x r. r) nowhere bs τ x xs e) at q))
           (λ b bs τ x y ys r l p h ih q. ih (rw (walk-pass (depth n) find (λ x r. r) nowhere b bs τ x (y ∷ ys) h) at q))
           bs τ page (s .0 .0) (s .1) a e q,
     )

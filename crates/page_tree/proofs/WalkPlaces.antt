@@ -93,8 +93,7 @@ module _ {A : Type 0} (depth : A → ℕ) where
 
   -- An insertion: the row that stands for the thing found, between what was passed and what stands after it.
   pub replaceIn-at : (new : List ℕ → ℕ → A → List A) (bs : List ℕ) (τ : ℕ) (xs : List A) (y : A) (ys : List A) → Passes bs xs
-      → Stops (positionsAfter bs xs) y
-      → replaceIn depth new bs τ (xs ++ (y ∷ ys)) ≡ xs ++ (new (positionsAfter bs xs) (lastDepth depth τ xs) y ++ ys)
+      → Stops (positionsAfter bs xs) y → replaceIn depth new bs τ (xs ++ (y ∷ ys)) ≡ xs ++ (new (positionsAfter bs xs) (lastDepth depth τ xs) y ++ ys)
   replaceIn-at new bs τ xs y ys p s =
       walk-at (λ bs τ x xs. new bs τ x ++ xs) (λ x r. x ∷ r) [] bs τ xs y ys p s ∙ sym
       (append-foldr xs (new (positionsAfter bs xs) (lastDepth depth τ xs) y ++ ys))

@@ -1,19 +1,52 @@
--- Rows of other things with the same depths are cut alike. Assumes nothing.
-use mathlib.Core.Path.{_≡_, refl, sym}
+-- Rows of other things with the same depths are closed, walked and cut alike. Assumes nothing.
+use mathlib.Core.Path.{_≡_, refl, ap, sym, _∙_}
 use mathlib.Core.Bool.{Bool, true, false, cond}
 use mathlib.Core.List.{List, [], _∷_, _++_, map, map-append}
 use Prim.Native.Nat.{ℕ, zero, suc}
+use native.Mathlib.Omega.{arith}
 use lib.Dec.{leb}
 use lib.ListN.{length, length-map}
-use Rattle.page_tree.specs.Rows.{All}
+use Rattle.page_tree.specs.Rows.{All, Closed, lastDepth}
+use Rattle.page_tree.specs.Walk.{rest}
 use Rattle.page_tree.specs.Cutting.{split, cut, parts}
 use Rattle.page_tree.proofs.ListLaws.{all-left, all-right}
 use Rattle.page_tree.proofs.Splitting.{split-join}
+use Rattle.page_tree.proofs.WalkPlaces.{positionsAfter, Passes}
 
 module _ {A B : Type 0} (depth : A → ℕ) (depth′ : B → ℕ) (f : A → B) where
   -- The things of the row have the same depth as what f makes of them.
   abbrev pub SameDepths : List A → Type 0
   SameDepths row = All (λ x. depth′ (f x) ≡ depth x) row
+
+  -- The same last depth.
+  pub lastDepth-map : (τ : ℕ) (row : List A) → SameDepths row → lastDepth depth′ τ (map f row) ≡ lastDepth depth τ row
+  lastDepth-map τ [] h = refl
+  lastDepth-map τ (x ∷ xs) h = ap (λ (d : ℕ). lastDepth depth′ d (map f xs)) (h .0) ∙ lastDepth-map (depth x) xs (h .1)
+
+  -- Closed by the same depth,
+  pub closed-map : (c : ℕ) (row : List A) → SameDepths row → Closed depth c row → Closed depth′ c (map f row)
+  closed-map c [] h g = g
+  closed-map c (x ∷ []) h g = h .0 ∙ g
+  closed-map c (x ∷ y ∷ ys) h g = (omega (arith, h .0, g .0), closed-map c (y ∷ ys) (h .1) (g .1))
+
+  -- and back.
+  pub closed-unmap : (c : ℕ) (row : List A) → SameDepths row → Closed depth′ c (map f row) → Closed depth c row
+  closed-unmap c [] h g = g
+  closed-unmap c (x ∷ []) h g = sym (h .0) ∙ g
+  closed-unmap c (x ∷ y ∷ ys) h g = (omega (arith, h .0, g .0), closed-unmap c (y ∷ ys) (h .1) (g .1))
+
+  -- The same positions are left,
+  pub positionsAfter-map : (bs : List ℕ) (row : List A) → SameDepths row → positionsAfter depth′ bs (map f row) ≡ positionsAfter depth bs row
+  positionsAfter-map bs [] h = refl
+  positionsAfter-map [] (x ∷ xs) h = refl
+  positionsAfter-map (b ∷ bs) (x ∷ xs) h =
+      ap (λ (d : ℕ). positionsAfter depth′ (rest d b bs) (map f xs)) (h .0) ∙ positionsAfter-map (rest (depth x) b bs) xs (h .1)
+
+  -- where both are passed.
+  pub passes-map : (bs : List ℕ) (row : List A) → SameDepths row → Passes depth bs row → Passes depth′ bs (map f row)
+  passes-map bs [] h g = tt
+  passes-map [] (x ∷ xs) h g = absurd g
+  passes-map (b ∷ bs) (x ∷ xs) h g = (omega (arith, h .0, g .0), rw (h .0) (passes-map (rest (depth x) b bs) xs (h .1) (g .1)))
 
   -- The same split.
   pub split-map : (row : List A) → SameDepths row
