@@ -1,18 +1,20 @@
--- Trees of pages over the leaf list of a herd: find, on and off. Assumes nothing.
+-- Trees of pages over the leaf list of a herd: the empty herd, find, on and off. Assumes nothing.
 use mathlib.Core.Path.{_≡_, refl, ap, sym, _∙_}
 use mathlib.Core.Option.{none, some}
 use mathlib.Core.List.{List, [], _∷_}
-use Prim.Native.Nat.{ℕ, suc, _≤_, _<_, _^_}
+use Prim.Native.Nat.{ℕ, zero, suc, _+_, _≤_, _<_, _^_}
 use native.Mathlib.Omega.{arith}
 use lib.ListN.{length}
 use Rattle.leaf_list.specs.Keys.{Key, bits}
 use Rattle.leaf_list.specs.Entries.{Entry, entry, pointerOf}
 use Rattle.leaf_list.specs.Herd.{Herd, Narrow, Sorted, KeysOf, lookup, add, remove}
 use Rattle.leaf_list.specs.LeafList.{leafList}
+use Rattle.leaf_list.specs.Trie.{trieOf, writeAll}
 use Rattle.leaf_list.specs.Search.{positions, search, pointerAt, compared}
 use Rattle.leaf_list.proofs.Bits.{bits-length}
 use Rattle.leaf_list.proofs.Depths.{Neighbours}
 use Rattle.leaf_list.proofs.Positions.{Beyond, positions-beyond, positions-rise}
+use Rattle.leaf_list.proofs.Literal.{twin}
 use Rattle.leaf_list.proofs.Laws.{find-law, insertion-law, found-law, deletion-law, closed-law, neighbours-law}
 use Rattle.page_tree.specs.Rows.{Closed, lastDepth}
 use Rattle.page_tree.specs.Tree.{Node, depth, Tree, leavesOf, SoundTree, RootRule}
@@ -38,6 +40,19 @@ pub record HerdTree (w E : ℕ) (s : Herd) (t : Tree) : Type 0 where
   pub root : RootRule t
   -- "On level 0, read left to right, stands the leaf list"
   pub level0 : leavesOf t ≡ leafList w s
+
+-- "The empty herd has the one entry (0, NIL)", in one page on level 0.
+pub empty-pages : (w E : ℕ) → 1 ≤ E → HerdTree w E [] (0, entry 0 none ∷ [])
+empty-pages w E one =
+    record {
+      sound = ((refl, omega arith), (tt, tt));
+      root = λ h. absurd (omega arith);
+      level0 = sym (twin w [] tt tt ∙ ap writeAll (none-held w));
+    }
+  where
+    none-held : (w : ℕ) → trieOf w [] ≡ none
+    none-held zero = refl
+    none-held (suc w) = refl
 
 module _ (w E : ℕ) (s : Herd) (t : Tree) (narrow : Narrow w s) (sorted : Sorted s) (h : HerdTree w E s t) where
   -- "a last depth 0 closes the list"
@@ -105,19 +120,24 @@ module _ (w E : ℕ) (s : Herd) (t : Tree) (narrow : Narrow w s) (sorted : Sorte
                 ∙ insertion-law keyOf w key r s narrowKey narrow sorted keys absent;
           }
 
-      -- "One call adds at most 64 entries, so the row being split holds at most 319 entries".
-      pub on-row-319 : E ≤ 255 → w ≤ 64 → longestBelow E new (suc (t .0)) (positions 0 (bits w key)) 0 (t .1) ≤ 319
-      on-row-319 e v =
+      -- No row that is cut is longer than E + w, at any level,
+      pub on-row-short : longestBelow E new (suc (t .0)) (positions 0 (bits w key)) 0 (t .1) ≤ E + w
+      on-row-short =
           let k : Key = bits w key in
-          let short = longestBelow-short E w new (omega arith) (suc (t .0)) (positions 0 k) 0 (t .1) (h .sound) (positions-rise 0 k) (positions-past k) new-fits in
-          omega arith
+          longestBelow-short E w new (omega arith) (suc (t .0)) (positions 0 k) 0 (t .1) (h .sound) (positions-rise 0 k) (positions-past k) new-fits
 
-      -- The row of a new root holds at most 65.
-      pub on-roots-65 : w ≤ 64 → longestAbove E (length roots) (t .0) roots ≤ 65
-      on-roots-65 v =
+      -- and no row of a new root than w + 1.
+      pub on-roots-short : longestAbove E (length roots) (t .0) roots ≤ suc w
+      on-roots-short =
           let k : Key = bits w key in
-          let o = insertBelow-inPlace E w new (omega arith) (suc (t .0)) (positions 0 k) 0 (t .1) (h .sound) (positions-rise 0 k) (positions-past k) new-fits in
+          let p : Beyond (depth (suc (t .0)) (t .1)) (positions 0 k) = positions-past k in
+          let o = insertBelow-inPlace E w new (omega arith) (suc (t .0)) (positions 0 k) 0 (t .1) (h .sound) (positions-rise 0 k) p new-fits in
           omega (arith, longestAbove-first E two (length roots) (t .0) roots, o .few)
+
+      -- "One call adds at most 64 entries, so the row being split holds at most 319 entries"; that of a new root at most 65.
+      pub on-rows : E ≤ 255 → w ≤ 64
+          → (longestBelow E new (suc (t .0)) (positions 0 (bits w key)) 0 (t .1) ≤ 319) × (longestAbove E (length roots) (t .0) roots ≤ 65)
+      on-rows e v = (omega (arith, on-row-short), omega (arith, on-roots-short))
 
   -- Off, of a held key: afterwards the tree is sound over the leaf list of the herd without the key.
   pub off-pages : (key r : ℕ) → key < 2 ^ w → lookup key s ≡ some r → HerdTree w E (remove key s) (offTree w key t)

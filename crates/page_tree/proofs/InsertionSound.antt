@@ -51,6 +51,7 @@ module _ (E m : ℕ) (new : Replacement) (bs : List ℕ) (t : Tree) (two : 2 ≤
   abbrev roots : List (Node (suc (t .0)))
   roots = insertBelow E new (suc (t .0)) bs 0 (t .1)
 
+  -- They may stand in its place.
   roots-inPlace : InPlace (depth (suc (t .0))) (Sound E (suc (t .0))) m (depth (suc (t .0)) (t .1)) (t .1 ∷ []) roots
   roots-inPlace = insertBelow-inPlace E m new (omega arith) (suc (t .0)) bs 0 (t .1) s a e q
 

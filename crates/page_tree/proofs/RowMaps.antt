@@ -90,5 +90,6 @@ module _ {A B : Type 0} (depth : A → ℕ) (depth′ : B → ℕ) (f : A → B)
       step true p q = refl
       step false p q = rw (p, q) (sym (map-append (map f) (cut depth E fuel (s .1)) (cut depth E fuel (s .2))))
 
+  -- So too with all the fuel that is needed.
   pub parts-map : (E : ℕ) (row : List A) → SameDepths row → parts depth′ E (map f row) ≡ map (map f) (parts depth E row)
   parts-map E row h = rw (length-map row f) (cut-map E (length row) row h)

@@ -34,6 +34,7 @@ rootDepths t = map (depth (t .0)) (t .1)
 abbrev pub keys10 : List ℕ
 keys10 = 0 ∷ 0b10101010 ∷ 0b10101100 ∷ 0b00000000 ∷ 0b01000000 ∷ []
 
+-- The tree of P10.
 abbrev pub tree10 : Tree
 tree10 = changes 8 5 keys10 (on 1 ∷ on 2 ∷ on 3 ∷ on 4 ∷ [])
 
