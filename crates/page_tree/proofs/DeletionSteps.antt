@@ -12,7 +12,7 @@ use Rattle.leaf_list.specs.Entries.{Entry, entry}
 use Rattle.leaf_list.proofs.Depths.{closed-cons, Neighbours, neighbours-tail}
 use Rattle.page_tree.specs.declared.Unwind.{Unwind}
 use Rattle.page_tree.specs.declared.Unwind.the-variants.{Idle, Give, Clear}
-use Rattle.page_tree.specs.Rows.{All, flats, Closed}
+use Rattle.page_tree.specs.Rows.{All, flats, Closed, lastDepth}
 use Rattle.page_tree.specs.Tree.{Node, depth, leaves, Sound}
 use Rattle.page_tree.specs.OffPages.{Left, Step, stepEntry, over, sweep, unlessEmpty, stepBelow}
 use Rattle.page_tree.proofs.ClosedRows.{closed-last, closed-page}
@@ -29,11 +29,15 @@ neighbours-left [] ys h = tt
 neighbours-left (x ∷ []) ys h = tt
 neighbours-left (x ∷ y ∷ xs) ys h = (h .0, neighbours-left (y ∷ xs) ys (h .1))
 
--- A dummy after a row is deeper than the row's last.
-pub dummy-deeper : (b c : ℕ) (xs : List Entry) → Closed (depth 0) c xs → Neighbours (xs ++ entry b none ∷ []) → c < b
-dummy-deeper b c [] h g = absurd h
-dummy-deeper b c (entry d p ∷ []) h g = omega (arith, g .0 .before-dummy refl)
-dummy-deeper b c (x ∷ y ∷ ys) h g = dummy-deeper b c (y ∷ ys) (h .1) (g .1)
+-- A dummy is deeper than the entry before it.
+pub dummy-after : (d : ℕ) (x : Entry) (xs : List Entry) → Neighbours (x ∷ xs ++ entry d none ∷ []) → lastDepth (depth 0) (depth 0 x) xs < d
+dummy-after d (entry a p) [] g = g .0 .before-dummy refl
+dummy-after d x (y ∷ ys) g = dummy-after d y ys (g .1)
+
+-- So after a row that c closes.
+pub dummy-deeper : (d c : ℕ) (xs : List Entry) → Closed (depth 0) c xs → Neighbours (xs ++ entry d none ∷ []) → c < d
+dummy-deeper d c [] h g = absurd h
+dummy-deeper d c (x ∷ xs) h g = omega (arith, dummy-after d x xs g, closed-last (depth 0) c 0 (x ∷ xs) h)
 
 -- A row that stays: c closes it, its things are good, and it has at most m.
 pub record Stays {A : Type 0} (depthA : A → ℕ) (Good : A → Type 0) (c m : ℕ) (xs : List A) : Type 0 where

@@ -1,4 +1,4 @@
--- The pages' rules after an insertion, and how long the rows grow that are cut. Assumes nothing.
+-- The pages' rules after an insertion (01, "New parts enter the parent, which may be cut in turn"). Assumes nothing.
 use mathlib.Core.Path.{_≡_}
 use mathlib.Core.Logic.{_⊎_, inl, inr}
 use mathlib.Core.List.{List, [], _∷_}
