@@ -31,7 +31,8 @@ module _ {A : Type 0} (depth : A → ℕ) (E : ℕ) where
   -- What holds of a row left whole, and of a cut row if it holds of both sides, holds of every row and its parts.
   pub cut-induction : (P : ℕ → List A → List (List A) → Type 0)
       → ((fuel : ℕ) (row : List A) → (fuel ≡ 0) ⊎ (length row ≤ E) → P fuel row (row ∷ []))
-      → ((fuel : ℕ) (row : List A) (ls rs : List (List A)) → E < length row → P fuel (split depth row .1) ls → P fuel (split depth row .2) rs → P (suc fuel) row (ls ++ rs))
+      → ((fuel : ℕ) (row : List A) (ls rs : List (List A)) → E < length row → P fuel (split depth row .1) ls → P fuel (split depth row .2) rs
+      → P (suc fuel) row (ls ++ rs))
       → (fuel : ℕ) (row : List A) → P fuel row (cut depth E fuel row)
   unfolding cut
   cut-induction P whole both zero row = whole zero row (inl refl)
@@ -60,7 +61,8 @@ module _ {A : Type 0} (depth : A → ℕ) (E : ℕ) where
   cut-all P =
       cut-induction (λ fuel row ps. All P row → All (All P) ps) (λ fuel row h a. (a, tt))
       (λ fuel row ls rs h p q a. let b : All P (split depth row .1 ++ split depth row .2) = rw (split-join depth row) a in
-      all-append (All P) ls rs (p (all-left P (split depth row .1) (split depth row .2) b)) (q (all-right P (split depth row .1) (split depth row .2) b)))
+      all-append (All P) ls rs (p (all-left P (split depth row .1) (split depth row .2) b))
+      (q (all-right P (split depth row .1) (split depth row .2) b)))
 
   -- A row that is left whole fits, where the fuel is enough.
   whole-fits : (fuel : ℕ) (row : List A) → (fuel ≡ 0) ⊎ (length row ≤ E) → length row ≤ fuel + E → length row ≤ E
@@ -72,7 +74,9 @@ module _ {A : Type 0} (depth : A → ℕ) (E : ℕ) where
     pub cut-few : (fuel : ℕ) (row : List A) → (1 ≤ length (cut depth E fuel row)) × (length (cut depth E fuel row) ≤ suc (length row - E))
     cut-few =
         cut-induction (λ fuel row ps. (1 ≤ length ps) × (length ps ≤ suc (length row - E))) (λ fuel row h. (omega arith, omega arith))
-        (λ fuel row ls rs h p q. let n = split-sizes depth row (omega arith) in rw (length-append ls rs) (omega (arith, p .0), omega (arith, p .1, q .1, n .0, n .1, n .2)))
+        (λ fuel row ls rs h p q.
+        let n = split-sizes depth row (omega arith) in
+        rw (length-append ls rs) (omega (arith, p .0), omega (arith, p .1, q .1, n .0, n .1, n .2)))
 
     -- One part is the row itself.
     pub cut-cases : (fuel : ℕ) (row : List A) → (cut depth E fuel row ≡ row ∷ []) ⊎ (2 ≤ length (cut depth E fuel row))
@@ -91,7 +95,8 @@ module _ {A : Type 0} (depth : A → ℕ) (E : ℕ) where
         let k = split-closed depth c row (omega arith) cl in
         let a = p (split depth row .0) (split-shallowest depth row (omega arith) .first) (omega (arith, n .1, n .2)) in
         let b = q c (k .1) (omega (arith, n .0, n .2)) in
-        (closed-append (lastDepth depth 0) c ls rs (closed-deeper (lastDepth depth 0) c (split depth row .0) ls (k .0) (a .0)) (b .0), all-append (Page depth E) ls rs (a .1) (b .1)))
+        let d = closed-deeper (lastDepth depth 0) c (split depth row .0) ls (k .0) (a .0) in
+        (closed-append (lastDepth depth 0) c ls rs d (b .0), all-append (Page depth E) ls rs (a .1) (b .1)))
 
     -- Fuel that is enough: more changes nothing.
     pub cut-fuel : (fuel : ℕ) (row : List A) → length row ≤ fuel + E → (more : ℕ) → length row ≤ more + E
@@ -101,13 +106,16 @@ module _ {A : Type 0} (depth : A → ℕ) (E : ℕ) where
         (λ fuel row h g more m. sym (cut-fits more row (whole-fits fuel row h g))) again
       where
         again : (fuel : ℕ) (row : List A) (ls rs : List (List A)) → E < length row
-            → (length (split depth row .1) ≤ fuel + E → (more : ℕ) → length (split depth row .1) ≤ more + E → ls ≡ cut depth E more (split depth row .1))
-            → (length (split depth row .2) ≤ fuel + E → (more : ℕ) → length (split depth row .2) ≤ more + E → rs ≡ cut depth E more (split depth row .2))
+            → (length (split depth row .1) ≤ fuel + E → (more : ℕ) → length (split depth row .1) ≤ more + E
+            → ls ≡ cut depth E more (split depth row .1))
+            → (length (split depth row .2) ≤ fuel + E → (more : ℕ) → length (split depth row .2) ≤ more + E
+            → rs ≡ cut depth E more (split depth row .2))
             → length row ≤ suc fuel + E → (more : ℕ) → length row ≤ more + E → ls ++ rs ≡ cut depth E more row
         again fuel row ls rs h p q g zero m = absurd (omega arith)
         again fuel row ls rs h p q g (suc more) m =
             let n = split-sizes depth row (omega arith) in
-            ap₂ (λ xs ys. xs ++ ys) (p (omega (arith, n .1, n .2)) more (omega (arith, n .1, n .2))) (q (omega (arith, n .0, n .2)) more (omega (arith, n .0, n .2))) ∙ sym (cut-long more row h)
+            ap₂ (λ xs ys. xs ++ ys) (p (omega (arith, n .1, n .2)) more (omega (arith, n .1, n .2)))
+            (q (omega (arith, n .0, n .2)) more (omega (arith, n .0, n .2))) ∙ sym (cut-long more row h)
 
     -- "cut .. again while too long": no fuel is seen.
     pub parts-again : (row : List A) → E < length row → parts depth E row ≡ parts depth E (split depth row .1) ++ parts depth E (split depth row .2)

@@ -42,7 +42,8 @@ sweep-leaves {X} step leavesX e r (x ∷ xs) =
 pub stepBelow-leaves : (n : ℕ) (x : Node n) (r : Left Entry)
     → foldr (over stepEntry) r (leaves n x) ≡ (flats (leaves n) (stepBelow n (r .1) x .0) ++ r .0, stepBelow n (r .1) x .1)
 stepBelow-leaves zero x r = rw (flats-single (stepEntry (r .1) x .0))
-stepBelow-leaves (suc n) x r = sweep-leaves (stepBelow n) (leaves n) (stepBelow-leaves n) r x ∙ rw (flats-unlessEmpty (leaves n) (sweep (stepBelow n) (r .1) x [] .0))
+stepBelow-leaves (suc n) x r =
+    sweep-leaves (stepBelow n) (leaves n) (stepBelow-leaves n) r x ∙ rw (flats-unlessEmpty (leaves n) (sweep (stepBelow n) (r .1) x [] .0))
 
 -- What is left of one thing, before the others of its row.
 abbrev pub onto : {A : Type 0} → Left A → List A → Left A

@@ -34,7 +34,8 @@ module _ {A : Type 0} (count : A → ℕ) (step : Step A) (ok : (s : Unwind) (x 
   strikeIn-sum depthA leavesA at ok′ ν [] τ (x ∷ xs) =
       let next = nextDepth ν (flats leavesA xs) in
       rw (sum-append count (at next [] τ x .0) xs) (omega (arith, ok′ next [] τ x))
-  strikeIn-sum depthA leavesA at ok′ ν (b ∷ bs) τ (x ∷ xs) = go (ltb (depthA x) b) (strikeIn-sum depthA leavesA at ok′ ν (rest (depthA x) b bs) (depthA x) xs)
+  strikeIn-sum depthA leavesA at ok′ ν (b ∷ bs) τ (x ∷ xs) =
+      go (ltb (depthA x) b) (strikeIn-sum depthA leavesA at ok′ ν (rest (depthA x) b bs) (depthA x) xs)
     where
       here : Left A
       here = at (nextDepth ν (flats leavesA xs)) (b ∷ bs) τ x
@@ -52,7 +53,8 @@ module _ {A : Type 0} (count : A → ℕ) (step : Step A) (ok : (s : Unwind) (x 
 -- So at every level: the way back,
 pub stepBelow-pages : (n : ℕ) (s : Unwind) (x : Node n) → sum (pageCount n) (stepBelow n s x .0) ≤ pageCount n x
 stepBelow-pages zero s x = omega (arith, entries-pages (stepEntry s x .0))
-stepBelow-pages (suc n) s x = omega (arith, unlessEmpty-pages n (sweep (stepBelow n) s x [] .0), sweep-sum (pageCount n) (stepBelow n) (stepBelow-pages n) s x)
+stepBelow-pages (suc n) s x =
+    omega (arith, unlessEmpty-pages n (sweep (stepBelow n) s x [] .0), sweep-sum (pageCount n) (stepBelow n) (stepBelow-pages n) s x)
 
 -- and figure 11.
 pub deleteBelow-pages : (n ν : ℕ) (bs : List ℕ) (τ : ℕ) (x : Node n) → sum (pageCount n) (deleteBelow n ν bs τ x .0) ≤ pageCount n x

@@ -22,7 +22,7 @@ use Rattle.page_tree.proofs.WalkLaws.{walk-induction}
 use Rattle.page_tree.proofs.DeletionLeaves.{onto}
 use Rattle.page_tree.proofs.DeletionSteps.{neighbours-left, neighbours-right, Stays, Calm, StepLaws, over-calm, stays-page, stepBelow-laws}
 
--- Nothing is left of what c closed, after an entry of depth τ: the entry before is to take c, or c was no 1-leaf's.
+-- Nothing is left of what c closed, after an entry of depth τ: a 1-leaf went, whose depth c is to be taken; or another entry, no 1-leaf.
 abbrev pub Gone : ℕ → ℕ → Unwind → Type 0
 Gone τ c Idle = ⊥
 Gone τ c (Give d) = (d ≡ c) × (c < τ)
@@ -70,8 +70,7 @@ first-least depthA c x (y ∷ ys) h = omega (arith, h .0)
 
 -- What remains of the thing found, before the rest of its row.
 pub remains-front : {A : Type 0} (depthA : A → ℕ) (Good : A → Type 0) (τ c : ℕ) (x : A) (xs left : List A) (s : Unwind) → Closed depthA c (x ∷ xs)
-    → All Good xs
-    → Remains depthA Good τ (depthA x) 1 left s → Remains depthA Good τ c (suc (length xs)) (left ++ xs) s
+    → All Good xs → Remains depthA Good τ (depthA x) 1 left s → Remains depthA Good τ c (suc (length xs)) (left ++ xs) s
 remains-front depthA Good τ c x [] [] s h p w = rw h at w
 remains-front depthA Good τ c x (z ∷ zs) [] s h p w = (record { closed = h .1; good = p; short = omega arith }, gone-asked τ (depthA x) c s (h .0) w)
 remains-front depthA Good τ c x xs (y ∷ ys) s h p w = (
@@ -93,15 +92,15 @@ module _ {A : Type 0} (depthA : A → ℕ) (leavesA : A → List Entry) (Good : 
 
   -- One thing more on the left of what remains.
   pub over-remains : (τ c m : ℕ) (x : A) (ys : List A) (s : Unwind) → Good x → Neighbours (leavesA x) → c < depthA x
-      → Remains depthA Good (depthA x) c m ys s
-      → Remains depthA Good τ c (suc m) (step s x .0 ++ ys) (step s x .1)
+      → Remains depthA Good (depthA x) c m ys s → Remains depthA Good τ c (suc m) (step s x .0 ++ ys) (step s x .1)
   over-remains τ c m x [] Idle p r h q = absurd q
   over-remains τ c m x [] (Clear d) p r h q = absurd (omega (arith, q .0))
   over-remains τ c m x [] (Give d) p r h q =
       let o = k .give x p r d (omega (arith, q .0)) in
       rw (append-nil (step (Give d) x .0))
       (remains-stays depthA Good τ c (suc m) (step (Give d) x .0) (step (Give d) x .1)
-      (record { closed = rw (← (q .0)) (o .0 .closed); good = o .0 .good; short = omega (arith, o .0 .short) }) (calm-asked τ c (step (Give d) x .1) (o .1)))
+      (record { closed = rw (← (q .0)) (o .0 .closed); good = o .0 .good; short = omega (arith, o .0 .short) })
+      (calm-asked τ c (step (Give d) x .1) (o .1)))
   over-remains τ c m x (y ∷ ys) (Give d) p r h q =
       let o = k .give x p r d (q .1 .1) in
       let g = step (Give d) x .0 in
@@ -128,7 +127,8 @@ module _ {A : Type 0} (depthA : A → ℕ) (leavesA : A → List Entry) (Good : 
         (λ bs τ xs left. Neighbours (flats leavesA xs) → Remains depthA Good τ c (length xs) (left .0) (left .1))
         (λ bs τ x xs cl p a e r.
         let next = nextDepth ν (flats leavesA xs) in
-        remains-front depthA Good τ c x xs (at next bs τ x .0) (at next bs τ x .1) cl (p .1) (ok next bs τ x (p .0) (neighbours-left (leavesA x) (flats leavesA xs) r) a e))
+        remains-front depthA Good τ c x xs (at next bs τ x .0) (at next bs τ x .1) cl (p .1)
+        (ok next bs τ x (p .0) (neighbours-left (leavesA x) (flats leavesA xs) r) a e))
         (λ b bs τ x y ys left l p h ih r.
         over-remains τ c (suc (length ys)) x (left .0) (left .1) (p .0) (neighbours-left (leavesA x) (flats leavesA (y ∷ ys)) r) l
         (ih (neighbours-right (leavesA x) (flats leavesA (y ∷ ys)) r)))
@@ -153,6 +153,8 @@ deleteBelow-remains E zero ν bs τ (entry a p) s r y e = go (ltb a τ) (ltb ν 
     go false true l m = (ltb-false a τ l, ltb-true ν a m)
     go false false l m = (record { closed = refl; good = (tt, tt); short = omega arith }, tt)
 deleteBelow-remains E (suc n) ν bs τ x s r a e =
-    remains-page E n τ (depth (suc n) x) (length x) (strikeIn (depth n) (leaves n) (stepBelow n) (deleteBelow n) ν bs τ x .0) (strikeIn (depth n) (leaves n) (stepBelow n) (deleteBelow n) ν bs τ x .1)
+    remains-page E n τ (depth (suc n) x) (length x) (strikeIn (depth n) (leaves n) (stepBelow n) (deleteBelow n) ν bs τ x .0)
+    (strikeIn (depth n) (leaves n) (stepBelow n) (deleteBelow n) ν bs τ x .1)
     (s .0 .1)
-    (strikeIn-remains (depth n) (leaves n) (Sound E n) (stepBelow n) (stepBelow-laws E n) (deleteBelow n) (deleteBelow-remains E n) (depth (suc n) x) ν bs τ x (s .0 .0) (s .1) r a e)
+    (strikeIn-remains (depth n) (leaves n) (Sound E n) (stepBelow n) (stepBelow-laws E n) (deleteBelow n) (deleteBelow-remains E n)
+    (depth (suc n) x) ν bs τ x (s .0 .0) (s .1) r a e)

@@ -12,7 +12,7 @@ use Rattle.leaf_list.specs.Entries.{Entry, entry}
 use Rattle.leaf_list.proofs.Depths.{closed-cons, Neighbours, neighbours-tail}
 use Rattle.page_tree.specs.declared.Unwind.{Unwind}
 use Rattle.page_tree.specs.declared.Unwind.the-variants.{Idle, Give, Clear}
-use Rattle.page_tree.specs.Rows.{All, flats, Closed}
+use Rattle.page_tree.specs.Rows.{All, flats, Closed, lastDepth}
 use Rattle.page_tree.specs.Tree.{Node, depth, leaves, Sound}
 use Rattle.page_tree.specs.OffPages.{Left, Step, stepEntry, over, sweep, unlessEmpty, stepBelow}
 use Rattle.page_tree.proofs.ClosedRows.{closed-last, closed-page}
@@ -29,11 +29,15 @@ neighbours-left [] ys h = tt
 neighbours-left (x ∷ []) ys h = tt
 neighbours-left (x ∷ y ∷ xs) ys h = (h .0, neighbours-left (y ∷ xs) ys (h .1))
 
--- A dummy after a row is deeper than the row's last.
-pub dummy-deeper : (b c : ℕ) (xs : List Entry) → Closed (depth 0) c xs → Neighbours (xs ++ entry b none ∷ []) → c < b
-dummy-deeper b c [] h g = absurd h
-dummy-deeper b c (entry d p ∷ []) h g = omega (arith, g .0 .before-dummy refl)
-dummy-deeper b c (x ∷ y ∷ ys) h g = dummy-deeper b c (y ∷ ys) (h .1) (g .1)
+-- A dummy is deeper than the entry before it.
+pub dummy-after : (d : ℕ) (x : Entry) (xs : List Entry) → Neighbours (x ∷ xs ++ entry d none ∷ []) → lastDepth (depth 0) (depth 0 x) xs < d
+dummy-after d (entry a p) [] g = g .0 .before-dummy refl
+dummy-after d x (y ∷ ys) g = dummy-after d y ys (g .1)
+
+-- So after a row that c closes.
+pub dummy-deeper : (d c : ℕ) (xs : List Entry) → Closed (depth 0) c xs → Neighbours (xs ++ entry d none ∷ []) → c < d
+dummy-deeper d c [] h g = absurd h
+dummy-deeper d c (x ∷ xs) h g = omega (arith, dummy-after d x xs g, closed-last (depth 0) c 0 (x ∷ xs) h)
 
 -- A row that stays: c closes it, its things are good, and it has at most m.
 pub record Stays {A : Type 0} (depthA : A → ℕ) (Good : A → Type 0) (c m : ℕ) (xs : List A) : Type 0 where
@@ -49,7 +53,13 @@ Calm (Clear d) = Unit {0}
 
 -- Of a thing all goes, and it was one dummy; or nothing does.
 abbrev pub Cleared : {A : Type 0} → (A → ℕ) → (A → List Entry) → Step A → A → ℕ → Type 0
-Cleared depthA leavesA step x d = ((step (Clear d) x ≡ ([], Clear d)) × (leavesA x ≡ entry (depthA x) none ∷ [])) ⊎ (step (Clear d) x ≡ (x ∷ [], Idle))
+Cleared depthA leavesA step x d =
+    ((step (Clear d) x ≡ ([], Clear d)) × (leavesA x ≡ entry (depthA x) none ∷ [])) ⊎ (step (Clear d) x ≡ (x ∷ [], Idle))
+
+-- So for a row that c closes.
+abbrev pub RowCleared : {A : Type 0} → ℕ → (A → List Entry) → Step A → List A → ℕ → Type 0
+RowCleared c leavesA step xs d =
+    ((sweep step (Clear d) xs [] ≡ ([], Clear d)) × (flats leavesA xs ≡ entry c none ∷ [])) ⊎ (sweep step (Clear d) xs [] ≡ (xs, Idle))
 
 -- What a step to the left does to good things.
 pub record StepLaws {A : Type 0} (depthA : A → ℕ) (leavesA : A → List Entry) (Good : A → Type 0) (step : Step A) : Type 0 where
@@ -71,18 +81,16 @@ module _ {A : Type 0} (depthA : A → ℕ) (leavesA : A → List Entry) (Good : 
 
   -- A row goes whole, and was one dummy, or it stays whole: a dummy that is last in it is alone in it.
   pub sweep-clear : (c : ℕ) (xs : List A) → Closed depthA c xs → All Good xs → Neighbours (flats leavesA xs) → (d : ℕ)
-      → ((sweep step (Clear d) xs [] ≡ ([], Clear d)) × (flats leavesA xs ≡ entry c none ∷ [])) ⊎ (sweep step (Clear d) xs [] ≡ (xs, Idle))
+      → RowCleared c leavesA step xs d
   sweep-clear c [] h p r d = absurd h
   sweep-clear c (x ∷ []) h p r d = go (k .clear x (p .0) (rw (append-nil (leavesA x)) at r) d)
     where
-      go : Cleared depthA leavesA step x d
-          → ((sweep step (Clear d) (x ∷ []) [] ≡ ([], Clear d)) × (flats leavesA (x ∷ []) ≡ entry c none ∷ [])) ⊎ (sweep step (Clear d) (x ∷ []) [] ≡ (x ∷ [], Idle))
+      go : Cleared depthA leavesA step x d → RowCleared c leavesA step (x ∷ []) d
       go (inl w) = inl (rw (w .0), rw (append-nil (leavesA x), w .1, h))
       go (inr w) = inr (rw w)
   sweep-clear c (x ∷ y ∷ ys) h p r d = go (sweep-clear c (y ∷ ys) (h .1) (p .1) (neighbours-right (leavesA x) (flats leavesA (y ∷ ys)) r) d)
     where
-      go : ((sweep step (Clear d) (y ∷ ys) [] ≡ ([], Clear d)) × (flats leavesA (y ∷ ys) ≡ entry c none ∷ [])) ⊎ (sweep step (Clear d) (y ∷ ys) [] ≡ (y ∷ ys, Idle))
-          → ((sweep step (Clear d) (x ∷ y ∷ ys) [] ≡ ([], Clear d)) × (flats leavesA (x ∷ y ∷ ys) ≡ entry c none ∷ [])) ⊎ (sweep step (Clear d) (x ∷ y ∷ ys) [] ≡ (x ∷ y ∷ ys, Idle))
+      go : RowCleared c leavesA step (y ∷ ys) d → RowCleared c leavesA step (x ∷ y ∷ ys) d
       go (inl w) = absurd (omega (arith, h .0, dummy-deeper c (depthA x) (leavesA x) (k .closed x (p .0)) (rw (w .1) at r)))
       go (inr w) = inr (ap (over step x) w ∙ rw (k .idle x (p .0)))
 
@@ -105,7 +113,8 @@ module _ {A : Type 0} (depthA : A → ℕ) (leavesA : A → List Entry) (Good : 
   sweep-give c d (x ∷ []) h p r l = rw (append-nil (step (Give d) x .0)) (k .give x (p .0) (rw (append-nil (leavesA x)) at r) d (omega arith))
   sweep-give c d (x ∷ y ∷ ys) h p r l =
       let o = sweep-give c d (y ∷ ys) (h .1) (p .1) (neighbours-right (leavesA x) (flats leavesA (y ∷ ys)) r) l in
-      over-calm d (suc (length ys)) x (sweep step (Give d) (y ∷ ys) [] .0) (sweep step (Give d) (y ∷ ys) [] .1) (p .0) (neighbours-left (leavesA x) (flats leavesA (y ∷ ys)) r)
+      over-calm d (suc (length ys)) x (sweep step (Give d) (y ∷ ys) [] .0) (sweep step (Give d) (y ∷ ys) [] .1) (p .0)
+      (neighbours-left (leavesA x) (flats leavesA (y ∷ ys)) r)
       (omega (arith, h .0)) (o .0) (o .1)
 
 -- What stays of a page's row is a page.
@@ -152,15 +161,18 @@ stepBelow-laws E (suc n) = up (stepBelow-laws E n)
     up k =
         record {
           closed = closed-leaves E (suc n);
-          idle = λ page s. rw (sweep-idle (depth n) (leaves n) (Sound E n) (stepBelow n) k page (s .1), unlessEmpty-closed (depth n) (depth (suc n) page) page (s .0 .0));
-          clear = λ page s r d. clears page s d (sweep-clear (depth n) (leaves n) (Sound E n) (stepBelow n) k (depth (suc n) page) page (s .0 .0) (s .1) r d);
+          idle = λ page s. rw (sweep-idle (depth n) (leaves n) (Sound E n) (stepBelow n) k page (s .1), kept page s);
+          clear = λ page s r d.
+              clears page s d (sweep-clear (depth n) (leaves n) (Sound E n) (stepBelow n) k (depth (suc n) page) page (s .0 .0) (s .1) r d);
           give = λ page s r d l.
               let o = sweep-give (depth n) (leaves n) (Sound E n) (stepBelow n) k (depth (suc n) page) d page (s .0 .0) (s .1) r l in
               (stays-page E n d (length page) (sweep (stepBelow n) (Give d) page [] .0) (s .0 .1) (o .0), o .1);
         }
       where
-        clears : (page : Node (suc n)) → Sound E (suc n) page → (d : ℕ)
-            → ((sweep (stepBelow n) (Clear d) page [] ≡ ([], Clear d)) × (flats (leaves n) page ≡ entry (depth (suc n) page) none ∷ [])) ⊎ (sweep (stepBelow n) (Clear d) page [] ≡ (page, Idle))
+        kept : (page : Node (suc n)) → Sound E (suc n) page → unlessEmpty page ≡ page ∷ []
+        kept page s = unlessEmpty-closed (depth n) (depth (suc n) page) page (s .0 .0)
+
+        clears : (page : Node (suc n)) → Sound E (suc n) page → (d : ℕ) → RowCleared (depth (suc n) page) (leaves n) (stepBelow n) page d
             → Cleared (depth (suc n)) (leaves (suc n)) (stepBelow (suc n)) page d
         clears page s d (inl w) = inl (rw (w .0), w .1)
-        clears page s d (inr w) = inr (rw (w, unlessEmpty-closed (depth n) (depth (suc n) page) page (s .0 .0)))
+        clears page s d (inr w) = inr (rw (w, kept page s))

@@ -56,7 +56,8 @@ pub deleteTree-sound : (E : ℕ) (bs : List ℕ) (t : Tree) → SoundTree E t �
     → Neighbours (leavesOf t)
     → SoundTree E (deleteTree bs t) × RootRule (deleteTree bs t)
 deleteTree-sound E bs t s a z e r =
-    go (deleteBelow (suc (t .0)) 0 bs 0 (t .1) .0) (deleteBelow (suc (t .0)) 0 bs 0 (t .1) .1) (rw z at (deleteBelow-remains E (suc (t .0)) 0 bs 0 (t .1) s r a (rw z e)))
+    go (deleteBelow (suc (t .0)) 0 bs 0 (t .1) .0) (deleteBelow (suc (t .0)) 0 bs 0 (t .1) .1)
+    (rw z at (deleteBelow-remains E (suc (t .0)) 0 bs 0 (t .1) s r a (rw z e)))
   where
     go : (left : List (Node (suc (t .0)))) (w : Unwind) → Remains (depth (suc (t .0))) (Sound E (suc (t .0))) 0 0 1 left w
         → SoundTree E (rooted (t .0) left) × RootRule (rooted (t .0) left)

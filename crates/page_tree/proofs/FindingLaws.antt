@@ -23,8 +23,10 @@ pub findBelow-leaves : (E n : ℕ) (bs : List ℕ) (τ : ℕ) (x : Node n) (afte
     → findBelow n bs τ x ≡ findFlat bs τ (leaves n x ++ after)
 findBelow-leaves E zero bs τ x after s a e = sym (walk-stop (depth 0) (λ bs τ e es. (bs, τ, e)) (λ e r. r) nowhere bs τ x after e)
 findBelow-leaves E (suc n) bs τ x after s a e =
-    walk-flats (depth 0) (depth n) (leaves n) (Sound E n) (λ bs τ e es. (bs, τ, e)) (λ e r. r) nowhere (λ bs τ y ys. findBelow n bs τ y) (λ y r. r) nowhere
-    (λ b. b) after (closed-leaves E n) (λ bs τ y ys p a e. findBelow-leaves E n bs τ y (flats (leaves n) ys ++ after) p a e) (λ y r p. foldr-same r (leaves n y))
+    walk-flats (depth 0) (depth n) (leaves n) (Sound E n) (λ bs τ e es. (bs, τ, e)) (λ e r. r) nowhere (λ bs τ y ys. findBelow n bs τ y)
+    (λ y r. r) nowhere
+    (λ b. b) after (closed-leaves E n) (λ bs τ y ys p a e. findBelow-leaves E n bs τ y (flats (leaves n) ys ++ after) p a e)
+    (λ y r p. foldr-same r (leaves n y))
     (depth (suc n) x) bs τ x (s .0 .0) (s .1) a e
 
 -- The same entry, with the same positions left and the same depth before it.
@@ -45,10 +47,17 @@ pub findFlat-search : (before es : List Entry) (bs : List ℕ) → Closed (depth
     → FoundAt (findFlat bs (trailing before) es) (search before bs es)
 findFlat-search before [] bs cl e = absurd cl
 findFlat-search before (x ∷ es) [] cl e = record { after = es; entryFound = refl; depthBefore = refl }
-findFlat-search before (entry d p ∷ []) (b ∷ bs) cl e = rw (lt-ltb d b (omega (arith, e .0))) (record { after = []; entryFound = refl; depthBefore = refl })
-findFlat-search before (entry d p ∷ y ∷ es) (b ∷ bs) cl e = step (ltb d b) (findFlat-search (entry d p ∷ before) (y ∷ es) (rest d b bs) (cl .1) (rest-beyond 0 d b bs e))
+findFlat-search before (entry d p ∷ []) (b ∷ bs) cl e =
+    rw (lt-ltb d b (omega (arith, e .0))) (record { after = []; entryFound = refl; depthBefore = refl })
+findFlat-search before (entry d p ∷ y ∷ es) (b ∷ bs) cl e =
+    step (ltb d b) (findFlat-search (entry d p ∷ before) (y ∷ es) (rest d b bs) (cl .1) (rest-beyond 0 d b bs e))
   where
-    step : (t : Bool) → FoundAt (findFlat (rest d b bs) d (y ∷ es)) (search (entry d p ∷ before) (rest d b bs) (y ∷ es))
-        → FoundAt (cond t (b ∷ bs, trailing before, entry d p) (findFlat (rest d b bs) d (y ∷ es))) (cond t (before, entry d p ∷ y ∷ es) (search (entry d p ∷ before) (rest d b bs) (y ∷ es)))
+    found : Found
+    found = findFlat (rest d b bs) d (y ∷ es)
+
+    place : Place
+    place = search (entry d p ∷ before) (rest d b bs) (y ∷ es)
+
+    step : (t : Bool) → FoundAt found place → FoundAt (cond t (b ∷ bs, trailing before, entry d p) found) (cond t (before, entry d p ∷ y ∷ es) place)
     step true ih = record { after = y ∷ es; entryFound = refl; depthBefore = refl }
     step false ih = ih

@@ -45,13 +45,15 @@ settle-step (Clear d) (entry d′ none) before es = go (ltb d d′)
 
 -- At the entry found, no 1-leaf; the last has no next, and 0 stands for it.
 deleteOther-strike : (before after : List Entry) (d : ℕ) (p : Option ℕ) → Closed (depth 0) 0 (entry d p ∷ after)
-    → deleteOther before d after ≡ cond (ltb (nextDepth 0 after) d) (settle (Clear (nextDepth 0 after)) before after) (reverseAux before (entry d none ∷ after))
+    → deleteOther before d after
+    ≡ cond (ltb (nextDepth 0 after) d) (settle (Clear (nextDepth 0 after)) before after) (reverseAux before (entry d none ∷ after))
 deleteOther-strike before [] d p h = rw h
 deleteOther-strike before (entry d′ p′ ∷ after) d p h = refl
 
 -- At the entry found.
 pub deleteAt-strike : (before after : List Entry) (d : ℕ) (p : Option ℕ) → Closed (depth 0) 0 (entry d p ∷ after)
-    → deleteAt before (entry d p ∷ after) ≡ settle (strike (trailing before) (nextDepth 0 after) (entry d p) .1) before (strike (trailing before) (nextDepth 0 after) (entry d p) .0 ++ after)
+    → (let o : Left Entry = strike (trailing before) (nextDepth 0 after) (entry d p) in
+    deleteAt before (entry d p ∷ after) ≡ settle (o .1) before (o .0 ++ after))
 deleteAt-strike [] after d p h = deleteOther-strike [] after d p h ∙ rw (le-ltb d 0 (omega arith)) (go (ltb (nextDepth 0 after) d))
   where
     left : Bool → Left Entry
@@ -60,7 +62,8 @@ deleteAt-strike [] after d p h = deleteOther-strike [] after d p h ∙ rw (le-lt
     go : (t : Bool) → cond t (settle (Clear (nextDepth 0 after)) [] after) (entry d none ∷ after) ≡ settle (left t .1) [] (left t .0 ++ after)
     go true = refl
     go false = refl
-deleteAt-strike (entry d′ p′ ∷ before) after d p h = rw (deleteOther-strike (entry d′ p′ ∷ before) after d p h) (go (ltb d d′) (ltb (nextDepth 0 after) d))
+deleteAt-strike (entry d′ p′ ∷ before) after d p h =
+    rw (deleteOther-strike (entry d′ p′ ∷ before) after d p h) (go (ltb d d′) (ltb (nextDepth 0 after) d))
   where
     left : Bool → Bool → Left Entry
     left t u = cond t ([], Give d) (cond u ([], Clear (nextDepth 0 after)) (entry d none ∷ [], Idle))
@@ -79,7 +82,8 @@ pub deleteFrom-flat : (es before : List Entry) (bs : List ℕ) → Closed (depth
 deleteFrom-flat [] before bs h e = absurd h
 deleteFrom-flat (entry d p ∷ es) before [] h e = deleteAt-strike before es d p h
 deleteFrom-flat (entry d p ∷ []) before (b ∷ bs) h e = rw (lt-ltb d b (omega (arith, e .0))) (deleteAt-strike before [] d p h)
-deleteFrom-flat (entry d p ∷ y ∷ es) before (b ∷ bs) h e = go (ltb d b) (deleteFrom-flat (y ∷ es) (entry d p ∷ before) (rest d b bs) (h .1) (rest-beyond 0 d b bs e))
+deleteFrom-flat (entry d p ∷ y ∷ es) before (b ∷ bs) h e =
+    go (ltb d b) (deleteFrom-flat (y ∷ es) (entry d p ∷ before) (rest d b bs) (h .1) (rest-beyond 0 d b bs e))
   where
     right : Left Entry
     right = deleteFlat 0 (rest d b bs) d (y ∷ es)

@@ -32,7 +32,8 @@ dummies-append l b [] es after = refl
 dummies-append l b (p ∷ ps) es after = go (ltb l p && ltb p b) (dummies-append l b ps es after)
   where
     go : (t : Bool) → dummies l b ps es ++ after ≡ dummies l b ps (es ++ after)
-        → cond t (entry p none ∷ dummies l b ps es) (dummies l b ps es) ++ after ≡ cond t (entry p none ∷ dummies l b ps (es ++ after)) (dummies l b ps (es ++ after))
+        → cond t (entry p none ∷ dummies l b ps es) (dummies l b ps es) ++ after
+        ≡ cond t (entry p none ∷ dummies l b ps (es ++ after)) (dummies l b ps (es ++ after))
     go true e = ap (λ (es : List Entry). entry p none ∷ es) e
     go false e = e
 
@@ -41,21 +42,41 @@ pub bothLeaves-append : (t : Bool) (b d new old : ℕ) (after : List Entry) → 
 bothLeaves-append true b d new old after = refl
 bothLeaves-append false b d new old after = refl
 
+-- Dummies deeper than d before a row that d closes.
+dummies-closed : (d l b : ℕ) (ps : List ℕ) (es : List Entry) → d ≤ l → Closed (depth 0) d es → Closed (depth 0) d (dummies l b ps es)
+dummies-closed d l b [] es h g = g
+dummies-closed d l b (p ∷ ps) es h g = go (ltb l p) (ltb p b) refl (dummies-closed d l b ps es h g)
+  where
+    go : (t u : Bool) → ltb l p ≡ t → Closed (depth 0) d (dummies l b ps es)
+        → Closed (depth 0) d (cond (t && u) (entry p none ∷ dummies l b ps es) (dummies l b ps es))
+    go true true q i = closed-cons (depth 0) d (entry p none) (dummies l b ps es) (omega (arith, ltb-true l p q)) i
+    go true false q i = i
+    go false u q i = i
+
+-- The two leaves are such a row.
+bothLeaves-closed : (t : Bool) (b d new old : ℕ) → d < b → Closed (depth 0) d (bothLeaves t b d new old [])
+bothLeaves-closed true b d new old h = (h, refl)
+bothLeaves-closed false b d new old h = (h, refl)
+
 module _ (keyOf : ℕ → Key) (k : Key) (r : ℕ) where
+  -- What stands for another key's leaf, before those after it; t says that b is below the leaf's depth.
+  abbrev forLeaf : Bool → ℕ → ℕ → ℕ → List Entry → List Entry
+  forLeaf t τ d old after =
+      let b : ℕ = firstDifference 0 k (keyOf old) in
+      cond t (entry b (some old) ∷ entry d (some r) ∷ after)
+      (dummies (leafDepth τ d) b (positions 0 k) (bothLeaves (below k (keyOf old)) b d r old after))
+
   -- What stands for the entry found does not look at those after it.
   pub insertAt-append : (τ : ℕ) (e : Entry) (after : List Entry) → insertAt keyOf k r τ (e ∷ []) ++ after ≡ insertAt keyOf k r τ (e ∷ after)
   insertAt-append τ (entry d none) after = refl
-  insertAt-append τ (entry d (some old)) after = go (ltb b (leafDepth τ d))
+  insertAt-append τ (entry d (some old)) after = go (ltb (firstDifference 0 k (keyOf old)) (leafDepth τ d))
     where
-      b : ℕ
-      b = firstDifference 0 k (keyOf old)
-
-      go : (t : Bool)
-          → cond t (entry b (some old) ∷ entry d (some r) ∷ []) (dummies (leafDepth τ d) b (positions 0 k) (bothLeaves (below k (keyOf old)) b d r old [])) ++ after
-          ≡ cond t (entry b (some old) ∷ entry d (some r) ∷ after) (dummies (leafDepth τ d) b (positions 0 k) (bothLeaves (below k (keyOf old)) b d r old after))
+      go : (t : Bool) → forLeaf t τ d old [] ++ after ≡ forLeaf t τ d old after
       go true = refl
       go false =
-          dummies-append (leafDepth τ d) b (positions 0 k) (bothLeaves (below k (keyOf old)) b d r old []) after ∙ rw (bothLeaves-append (below k (keyOf old)) b d r old after)
+          let b : ℕ = firstDifference 0 k (keyOf old) in
+          dummies-append (leafDepth τ d) b (positions 0 k) (bothLeaves (below k (keyOf old)) b d r old []) after
+          ∙ rw (bothLeaves-append (below k (keyOf old)) b d r old after)
 
   -- Replacing the entry found is insertion at the place found.
   pub replaceIn-insertInto : (es before : List Entry) (bs : List ℕ)
@@ -74,24 +95,10 @@ module _ (keyOf : ℕ → Key) (k : Key) (r : ℕ) where
       both t = cond t (before, entry d p ∷ es) place
 
       go : (t : Bool) → reverseAux (entry d p ∷ before) right ≡ insertInto keyOf k r place
-          → reverseAux before (cond t (insertAt keyOf k r (trailing before) (entry d p ∷ []) ++ es) (entry d p ∷ right)) ≡ insertInto keyOf k r (both t)
+          → reverseAux before (cond t (insertAt keyOf k r (trailing before) (entry d p ∷ []) ++ es) (entry d p ∷ right))
+          ≡ insertInto keyOf k r (both t)
       go true e = ap (reverseAux before) (insertAt-append (trailing before) (entry d p) es)
       go false e = e
-
-  -- Dummies deeper than d before a row that d closes.
-  dummies-closed : (d l b : ℕ) (ps : List ℕ) (es : List Entry) → d ≤ l → Closed (depth 0) d es → Closed (depth 0) d (dummies l b ps es)
-  dummies-closed d l b [] es h g = g
-  dummies-closed d l b (p ∷ ps) es h g = go (ltb l p) (ltb p b) refl (dummies-closed d l b ps es h g)
-    where
-      go : (t u : Bool) → ltb l p ≡ t → Closed (depth 0) d (dummies l b ps es)
-          → Closed (depth 0) d (cond (t && u) (entry p none ∷ dummies l b ps es) (dummies l b ps es))
-      go true true q i = closed-cons (depth 0) d (entry p none) (dummies l b ps es) (omega (arith, ltb-true l p q)) i
-      go true false q i = i
-      go false u q i = i
-
-  bothLeaves-closed : (t : Bool) (b d new old : ℕ) → d < b → Closed (depth 0) d (bothLeaves t b d new old [])
-  bothLeaves-closed true b d new old h = (h, refl)
-  bothLeaves-closed false b d new old h = (h, refl)
 
   -- What stands for the entry found has its depth last and all others deeper: insertion never changes a page's last depth.
   pub insertAt-closed : (τ : ℕ) (e : Entry) (after : List Entry) → FoundOther keyOf k τ (e ∷ after)
@@ -99,13 +106,10 @@ module _ (keyOf : ℕ → Key) (k : Key) (r : ℕ) where
   insertAt-closed τ (entry d none) after h = refl
   insertAt-closed τ (entry d (some old)) after h = go (ltb (firstDifference 0 k (keyOf old)) (leafDepth τ d))
     where
-      b : ℕ
-      b = firstDifference 0 k (keyOf old)
-
-      go : (t : Bool)
-          → Closed (depth 0) d (cond t (entry b (some old) ∷ entry d (some r) ∷ []) (dummies (leafDepth τ d) b (positions 0 k) (bothLeaves (below k (keyOf old)) b d r old [])))
+      go : (t : Bool) → Closed (depth 0) d (forLeaf t τ d old [])
       go true = (h .deeper, refl)
       go false =
+          let b : ℕ = firstDifference 0 k (keyOf old) in
           dummies-closed d (leafDepth τ d) b (positions 0 k) (bothLeaves (below k (keyOf old)) b d r old []) (omega (arith, leafDepth-max τ d))
           (bothLeaves-closed (below k (keyOf old)) b d r old (h .deeper))
 

@@ -51,7 +51,8 @@ module _ (E : ℕ) where
   grow-induction P nil one stop more zero n (x ∷ y ∷ xs) = stop n x y xs
   grow-induction P nil one stop more (suc fuel) n [] = nil (suc fuel) n
   grow-induction P nil one stop more (suc fuel) n (x ∷ []) = one (suc fuel) n x
-  grow-induction P nil one stop more (suc fuel) n (x ∷ y ∷ xs) = more fuel n x y xs (grow-induction P nil one stop more fuel (suc n) (rootParts n (x ∷ y ∷ xs)))
+  grow-induction P nil one stop more (suc fuel) n (x ∷ y ∷ xs) =
+      more fuel n x y xs (grow-induction P nil one stop more fuel (suc n) (rootParts n (x ∷ y ∷ xs)))
 
   -- One part is the root.
   pub grow-one : (fuel n : ℕ) (x : Node (suc n)) → grow E fuel n (x ∷ []) ≡ (n, x)
@@ -61,7 +62,8 @@ module _ (E : ℕ) where
   -- Level 0 stays as it is.
   pub grow-leaves : (fuel n : ℕ) (xs : List (Node (suc n))) → leavesOf (grow E fuel n xs) ≡ flats (leaves (suc n)) xs
   grow-leaves =
-      grow-induction (λ fuel n xs t. leavesOf t ≡ flats (leaves (suc n)) xs) (λ fuel n. refl) (λ fuel n x. sym (append-nil (leaves (suc n) x))) (λ n x y xs. refl)
+      grow-induction (λ fuel n xs t. leavesOf t ≡ flats (leaves (suc n)) xs) (λ fuel n. refl) (λ fuel n x. sym (append-nil (leaves (suc n) x)))
+      (λ n x y xs. refl)
       (λ fuel n x y xs ih. ih ∙ parts-leaves E (suc n) (x ∷ y ∷ xs))
 
   module _ (two : 2 ≤ E) where
@@ -69,7 +71,9 @@ module _ (E : ℕ) where
     pub grow-sound : (fuel n : ℕ) (xs : List (Node (suc n))) (c : ℕ) → Closed (depth (suc n)) c xs → All (Sound E (suc n)) xs → length xs ≤ suc fuel
         → SoundTree E (grow E fuel n xs) × (2 ≤ length xs → 2 ≤ length (grow E fuel n xs .1))
     grow-sound =
-        grow-induction (λ fuel n xs t. (c : ℕ) → Closed (depth (suc n)) c xs → All (Sound E (suc n)) xs → length xs ≤ suc fuel → SoundTree E t × (2 ≤ length xs → 2 ≤ length (t .1)))
+        grow-induction
+        (λ fuel n xs t. (c : ℕ) → Closed (depth (suc n)) c xs → All (Sound E (suc n)) xs → length xs ≤ suc fuel
+        → SoundTree E t × (2 ≤ length xs → 2 ≤ length (t .1)))
         (λ fuel n c cl s l. absurd cl) (λ fuel n x c cl s l. (s .0, λ h. absurd (omega arith))) (λ n x y xs c cl s l. absurd (omega arith))
         (λ fuel n x y xs ih c cl s l.
         let o = parts-sound E (suc n) c (x ∷ y ∷ xs) (omega arith) cl s in
@@ -85,7 +89,8 @@ module _ (E : ℕ) where
     pub grow-fuel : (fuel n : ℕ) (xs : List (Node (suc n))) → length xs ≤ suc fuel → (more : ℕ) → length xs ≤ suc more
         → grow E fuel n xs ≡ grow E more n xs
     grow-fuel =
-        grow-induction (λ fuel n xs t. length xs ≤ suc fuel → (more : ℕ) → length xs ≤ suc more → t ≡ grow E more n xs) (λ fuel n l more m. nil n more)
+        grow-induction (λ fuel n xs t. length xs ≤ suc fuel → (more : ℕ) → length xs ≤ suc more → t ≡ grow E more n xs)
+        (λ fuel n l more m. nil n more)
         (λ fuel n x l more m. sym (grow-one more n x)) (λ n x y xs l. absurd (omega arith)) again
       where
         nil : (n more : ℕ) → (n, []) ≡ grow E more n []
@@ -98,7 +103,8 @@ module _ (E : ℕ) where
             → length (x ∷ y ∷ xs) ≤ suc (suc fuel) → (more : ℕ) → length (x ∷ y ∷ xs) ≤ suc more
             → grow E fuel (suc n) (rootParts n (x ∷ y ∷ xs)) ≡ grow E more n (x ∷ y ∷ xs)
         again fuel n x y xs ih l zero m = absurd (omega arith)
-        again fuel n x y xs ih l (suc more) m = let k = parts-fewer (depth (suc n)) E (x ∷ y ∷ xs) two (omega arith) in ih (omega arith) more (omega arith)
+        again fuel n x y xs ih l (suc more) m =
+            let k = parts-fewer (depth (suc n)) E (x ∷ y ∷ xs) two (omega arith) in ih (omega arith) more (omega arith)
 
     -- "above a cut root comes a new root, itself cut while too long": no fuel is seen.
     pub grown-again : (n : ℕ) (x y : Node (suc n)) (xs : List (Node (suc n))) → grown E n (x ∷ y ∷ xs) ≡ grown E (suc n) (rootParts n (x ∷ y ∷ xs))
@@ -119,7 +125,8 @@ module _ (E : ℕ) where
   pub grow-pages : 1 ≤ E → (fuel n : ℕ) (xs : List (Node (suc n))) → 1 ≤ length xs
       → pagesOf (grow E fuel n xs) ≡ sum (pageCount (suc n)) xs + pagesAbove fuel n xs
   grow-pages one =
-      grow-induction (λ fuel n xs t. 1 ≤ length xs → pagesOf t ≡ sum (pageCount (suc n)) xs + pagesAbove fuel n xs) (λ fuel n h. absurd (omega arith)) (λ fuel n x h. single fuel n x)
+      grow-induction (λ fuel n xs t. 1 ≤ length xs → pagesOf t ≡ sum (pageCount (suc n)) xs + pagesAbove fuel n xs) (λ fuel n h. absurd (omega arith))
+      (λ fuel n x h. single fuel n x)
       (λ n x y xs h. omega arith)
       (λ fuel n x y xs ih h.
       let ps : List (Node (suc (suc n))) = rootParts n (x ∷ y ∷ xs) in

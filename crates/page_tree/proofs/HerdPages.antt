@@ -1,17 +1,20 @@
--- Trees of pages over the leaf list of a herd: find, on and off. Assumes nothing.
+-- Trees of pages over the leaf list of a herd: the empty herd, find, on and off. Assumes nothing.
 use mathlib.Core.Path.{_≡_, refl, ap, sym, _∙_}
 use mathlib.Core.Option.{none, some}
 use mathlib.Core.List.{List, [], _∷_}
-use Prim.Native.Nat.{ℕ, suc, _≤_, _<_, _^_}
+use Prim.Native.Nat.{ℕ, zero, suc, _+_, _≤_, _<_, _^_}
 use native.Mathlib.Omega.{arith}
 use lib.ListN.{length}
 use Rattle.leaf_list.specs.Keys.{Key, bits}
 use Rattle.leaf_list.specs.Entries.{Entry, entry, pointerOf}
 use Rattle.leaf_list.specs.Herd.{Herd, Narrow, Sorted, KeysOf, lookup, add, remove}
 use Rattle.leaf_list.specs.LeafList.{leafList}
+use Rattle.leaf_list.specs.Trie.{trieOf, writeAll}
 use Rattle.leaf_list.specs.Search.{positions, search, pointerAt, compared}
 use Rattle.leaf_list.proofs.Bits.{bits-length}
+use Rattle.leaf_list.proofs.Depths.{Neighbours}
 use Rattle.leaf_list.proofs.Positions.{Beyond, positions-beyond, positions-rise}
+use Rattle.leaf_list.proofs.Literal.{twin}
 use Rattle.leaf_list.proofs.Laws.{find-law, insertion-law, found-law, deletion-law, closed-law, neighbours-law}
 use Rattle.page_tree.specs.Rows.{Closed, lastDepth}
 use Rattle.page_tree.specs.Tree.{Node, depth, Tree, leavesOf, SoundTree, RootRule}
@@ -38,7 +41,21 @@ pub record HerdTree (w E : ℕ) (s : Herd) (t : Tree) : Type 0 where
   -- "On level 0, read left to right, stands the leaf list"
   pub level0 : leavesOf t ≡ leafList w s
 
+-- "The empty herd has the one entry (0, NIL)", in one page on level 0.
+pub empty-pages : (w E : ℕ) → 1 ≤ E → HerdTree w E [] (0, entry 0 none ∷ [])
+empty-pages w E one =
+    record {
+      sound = ((refl, omega arith), (tt, tt));
+      root = λ h. absurd (omega arith);
+      level0 = sym (twin w [] tt tt ∙ ap writeAll (none-held w));
+    }
+  where
+    none-held : (w : ℕ) → trieOf w [] ≡ none
+    none-held zero = refl
+    none-held (suc w) = refl
+
 module _ (w E : ℕ) (s : Herd) (t : Tree) (narrow : Narrow w s) (sorted : Sorted s) (h : HerdTree w E s t) where
+  -- "a last depth 0 closes the list"
   list-closed : Closed (depth 0) 0 (leafList w s)
   list-closed = closed-law w s narrow sorted
 
@@ -54,7 +71,7 @@ module _ (w E : ℕ) (s : Herd) (t : Tree) (narrow : Narrow w s) (sorted : Sorte
   positions-past k = rw root-depth (positions-beyond 0 0 k (omega arith))
 
   -- What figure 6 finds level by level is what the search of the leaf list finds.
-  found-in-list : (k : Key) → FoundAt (findIn (positions 0 k) t) (search [] (positions 0 k) (leafList w s))
+  pub found-in-list : (k : Key) → FoundAt (findIn (positions 0 k) t) (search [] (positions 0 k) (leafList w s))
   found-in-list k =
       rw (findIn-leaves E (positions 0 k) t (h .sound) (positions-rise 0 k) (positions-past k), h .level0)
       (findFlat-search [] (leafList w s) (positions 0 k) list-closed (positions-beyond 0 0 k (omega arith)))
@@ -64,59 +81,70 @@ module _ (w E : ℕ) (s : Herd) (t : Tree) (narrow : Narrow w s) (sorted : Sorte
       → compared (λ r. bits w (keyOf r)) (bits w key) (pointerOf (findIn (positions 0 (bits w key)) t .2)) ≡ lookup key s
   find-in-pages keyOf key n g =
       let at = found-in-list (bits w key) in
-      ap (compared (λ r. bits w (keyOf r)) (bits w key)) (sym (ap pointerAt (at .entryFound) ∙ first (findIn (positions 0 (bits w key)) t .2) (at .after)))
+      ap (compared (λ r. bits w (keyOf r)) (bits w key))
+      (sym (ap pointerAt (at .entryFound) ∙ first (findIn (positions 0 (bits w key)) t .2) (at .after)))
       ∙ find-law keyOf w key s n narrow sorted g
     where
       first : (e : Entry) (es : List Entry) → pointerAt (e ∷ es) ≡ pointerOf e
       first (entry d p) es = refl
 
-  -- The new entries of a key that is not held fit.
-  new-fits : (keyOf : ℕ → ℕ) (key r : ℕ) → key < 2 ^ w → KeysOf keyOf s → lookup key s ≡ none
-      → Fits w (newEntries (λ x. bits w (keyOf x)) (bits w key) r) (findIn (positions 0 (bits w key)) t)
-  new-fits keyOf key r n g a =
-      rw (bits-length w key) at (newEntries-fit (λ x. bits w (keyOf x)) (bits w key) r (findIn (positions 0 (bits w key)) t) (search [] (positions 0 (bits w key)) (leafList w s))
-      (found-in-list (bits w key)) (found-law keyOf w key s n narrow sorted g a))
+  -- On, of a key that is not held.
+  module _ (keyOf : ℕ → ℕ) (key r : ℕ) (narrowKey : key < 2 ^ w) (keys : KeysOf keyOf s) (absent : lookup key s ≡ none) where
+    -- What stands in the place of the entry found, and in the place of the root.
+    abbrev pub new : Replacement
+    new = newEntries (λ x. bits w (keyOf x)) (bits w key) r
 
-  -- On: afterwards the tree is sound over the leaf list of the herd with the key.
-  pub on-pages : (keyOf : ℕ → ℕ) (key r : ℕ) → 2 ≤ E → key < 2 ^ w → KeysOf keyOf s → lookup key s ≡ none
-      → HerdTree w E (add key r s) (onTree w E keyOf key r t)
-  on-pages keyOf key r two n g a =
-      let k : Key = bits w key in
-      let new = newEntries (λ x. bits w (keyOf x)) k r in
-      let fits = new-fits keyOf key r n g a in
-      record {
-        sound = insertTree-sound E w new (positions 0 k) t two (h .sound) (positions-rise 0 k) (positions-past k) fits;
-        root = insertTree-root E w new (positions 0 k) t two (h .sound) (positions-rise 0 k) (positions-past k) fits (h .root);
-        level0 =
-            insertTree-leaves E new (positions 0 k) t (h .sound) (positions-rise 0 k) (positions-past k)
-            ∙ ap (replaceIn (depth 0) new (positions 0 k) 0) (h .level0)
-            ∙ replaceIn-insertInto (λ x. bits w (keyOf x)) k r (leafList w s) [] (positions 0 k)
-            ∙ insertion-law keyOf w key r s n narrow sorted g a;
-      }
+    abbrev pub roots : List (Node (suc (t .0)))
+    roots = insertBelow E new (suc (t .0)) (positions 0 (bits w key)) 0 (t .1)
 
-  -- "One call adds at most 64 entries, so the row being split holds at most 319 entries"; that of a new root at most 65.
-  pub on-rows : (keyOf : ℕ → ℕ) (key r : ℕ) → 2 ≤ E → E ≤ 255 → w ≤ 64 → key < 2 ^ w → KeysOf keyOf s → lookup key s ≡ none
-      → (let new : Replacement = newEntries (λ x. bits w (keyOf x)) (bits w key) r in
-      let roots : List (Node (suc (t .0))) = insertBelow E new (suc (t .0)) (positions 0 (bits w key)) 0 (t .1) in
-      (longestBelow E new (suc (t .0)) (positions 0 (bits w key)) 0 (t .1) ≤ 319) × (longestAbove E (length roots) (t .0) roots ≤ 65))
-  on-rows keyOf key r two m v n g a =
-      let k : Key = bits w key in
-      let new = newEntries (λ x. bits w (keyOf x)) k r in
-      let roots : List (Node (suc (t .0))) = insertBelow E new (suc (t .0)) (positions 0 k) 0 (t .1) in
-      let fits = new-fits keyOf key r n g a in (
-        omega (arith, longestBelow-short E w new (omega arith) (suc (t .0)) (positions 0 k) 0 (t .1) (h .sound) (positions-rise 0 k) (positions-past k) fits),
-        omega (
-          arith,
-          longestAbove-first E two (length roots) (t .0) roots,
-          insertBelow-inPlace E w new (omega arith) (suc (t .0)) (positions 0 k) 0 (t .1) (h .sound) (positions-rise 0 k) (positions-past k) fits .few,
-        ),
-      )
+    -- The new entries fit, and are at most w more.
+    pub new-fits : Fits w new (findIn (positions 0 (bits w key)) t)
+    new-fits =
+        rw (bits-length w key) at
+        (newEntries-fit (λ x. bits w (keyOf x)) (bits w key) r (findIn (positions 0 (bits w key)) t)
+        (search [] (positions 0 (bits w key)) (leafList w s))
+        (found-in-list (bits w key)) (found-law keyOf w key s narrowKey narrow sorted keys absent))
 
-  -- Off: afterwards the tree is sound over the leaf list of the herd without the key.
+    module _ (two : 2 ≤ E) where
+      -- Afterwards the tree is sound over the leaf list of the herd with the key.
+      pub on-pages : HerdTree w E (add key r s) (onTree w E keyOf key r t)
+      on-pages =
+          let k : Key = bits w key in
+          record {
+            sound = insertTree-sound E w new (positions 0 k) t two (h .sound) (positions-rise 0 k) (positions-past k) new-fits;
+            root = insertTree-root E w new (positions 0 k) t two (h .sound) (positions-rise 0 k) (positions-past k) new-fits (h .root);
+            level0 =
+                insertTree-leaves E new (positions 0 k) t (h .sound) (positions-rise 0 k) (positions-past k)
+                ∙ ap (replaceIn (depth 0) new (positions 0 k) 0) (h .level0)
+                ∙ replaceIn-insertInto (λ x. bits w (keyOf x)) k r (leafList w s) [] (positions 0 k)
+                ∙ insertion-law keyOf w key r s narrowKey narrow sorted keys absent;
+          }
+
+      -- No row that is cut is longer than E + w, at any level,
+      pub on-row-short : longestBelow E new (suc (t .0)) (positions 0 (bits w key)) 0 (t .1) ≤ E + w
+      on-row-short =
+          let k : Key = bits w key in
+          longestBelow-short E w new (omega arith) (suc (t .0)) (positions 0 k) 0 (t .1) (h .sound) (positions-rise 0 k) (positions-past k) new-fits
+
+      -- and no row of a new root than w + 1.
+      pub on-roots-short : longestAbove E (length roots) (t .0) roots ≤ suc w
+      on-roots-short =
+          let k : Key = bits w key in
+          let p : Beyond (depth (suc (t .0)) (t .1)) (positions 0 k) = positions-past k in
+          let o = insertBelow-inPlace E w new (omega arith) (suc (t .0)) (positions 0 k) 0 (t .1) (h .sound) (positions-rise 0 k) p new-fits in
+          omega (arith, longestAbove-first E two (length roots) (t .0) roots, o .few)
+
+      -- "One call adds at most 64 entries, so the row being split holds at most 319 entries"; that of a new root at most 65.
+      pub on-rows : E ≤ 255 → w ≤ 64
+          → (longestBelow E new (suc (t .0)) (positions 0 (bits w key)) 0 (t .1) ≤ 319) × (longestAbove E (length roots) (t .0) roots ≤ 65)
+      on-rows e v = (omega (arith, on-row-short), omega (arith, on-roots-short))
+
+  -- Off, of a held key: afterwards the tree is sound over the leaf list of the herd without the key.
   pub off-pages : (key r : ℕ) → key < 2 ^ w → lookup key s ≡ some r → HerdTree w E (remove key s) (offTree w key t)
   off-pages key r n a =
       let k : Key = bits w key in
-      let o = deleteTree-sound E (positions 0 k) t (h .sound) (positions-rise 0 k) root-depth (positions-beyond 0 0 k (omega arith)) (rw (h .level0) (neighbours-law w s narrow sorted)) in
+      let beside : Neighbours (leavesOf t) = rw (h .level0) (neighbours-law w s narrow sorted) in
+      let o = deleteTree-sound E (positions 0 k) t (h .sound) (positions-rise 0 k) root-depth (positions-beyond 0 0 k (omega arith)) beside in
       record {
         sound = o .0;
         root = o .1;

@@ -21,9 +21,11 @@ module _ (E : ℕ) (new : Replacement) where
       rw (flats-single (new bs τ x)) (sym (walk-stop (depth 0) (λ bs τ x xs. new bs τ x ++ xs) (λ x r. x ∷ r) [] bs τ x after e))
   insertBelow-leaves (suc n) bs τ x after s a e =
       rw (parts-leaves E n (replaceIn (depth n) (insertBelow E new n) bs τ x))
-      (walk-flats (depth 0) (depth n) (leaves n) (Sound E n) (λ bs τ x xs. new bs τ x ++ xs) (λ x r. x ∷ r) [] (λ bs τ x xs. insertBelow E new n bs τ x ++ xs) (λ x r. x ∷ r) []
+      (walk-flats (depth 0) (depth n) (leaves n) (Sound E n) (λ bs τ x xs. new bs τ x ++ xs) (λ x r. x ∷ r) []
+      (λ bs τ x xs. insertBelow E new n bs τ x ++ xs) (λ x r. x ∷ r) []
       (λ r. flats (leaves n) r ++ after) after (closed-leaves E n)
-      (λ bs τ y ys p a e. rw (flats-append (leaves n) (insertBelow E new n bs τ y) ys, append-assoc) (insertBelow-leaves n bs τ y (flats (leaves n) ys ++ after) p a e))
+      (λ bs τ y ys p a e.
+      rw (flats-append (leaves n) (insertBelow E new n bs τ y) ys, append-assoc) (insertBelow-leaves n bs τ y (flats (leaves n) ys ++ after) p a e))
       (λ y r p. append-assoc (leaves n y) (flats (leaves n) r) after ∙ append-foldr (leaves n y) (flats (leaves n) r ++ after))
       (depth (suc n) x) bs τ x (s .0 .0) (s .1) a e)
 

@@ -28,7 +28,8 @@ replaceIn-sum d count new more ok (b ∷ bs) τ (x ∷ xs) = step (ltb (d x) b) 
     m = walk d (λ bs τ x xs. more bs τ x) (λ x r. r) 0 (rest (d x) b bs) (d x) xs
 
     step : (t : Bool) → sum count (replaceIn d new (rest (d x) b bs) (d x) xs) ≡ sum count xs + m
-        → sum count (cond t (new (b ∷ bs) τ x ++ xs) (x ∷ replaceIn d new (rest (d x) b bs) (d x) xs)) ≡ (count x + sum count xs) + cond t (more (b ∷ bs) τ x) m
+        → sum count (cond t (new (b ∷ bs) τ x ++ xs) (x ∷ replaceIn d new (rest (d x) b bs) (d x) xs))
+        ≡ (count x + sum count xs) + cond t (more (b ∷ bs) τ x) m
     step true i = omega (arith, sum-append count (new (b ∷ bs) τ x) xs, ok (b ∷ bs) τ x)
     step false i = omega arith
 
@@ -47,14 +48,15 @@ module _ (E : ℕ) (new : Replacement) (one : 1 ≤ E) where
         replaceIn-sum (depth n) (pageCount n) (insertBelow E new n) (pagesBelow E new n) (insertBelow-pages n) bs τ x,
       )
 
-  -- How many pages there are afterwards.
+  -- How many pages there are afterwards: those before, one for each part but the first at every level, and those of the new levels.
   pub insertTree-pages : (bs : List ℕ) (t : Tree)
-      → pagesOf (insertTree E new bs t)
-      ≡ pagesOf t + pagesBelow E new (suc (t .0)) bs 0 (t .1) + pagesAbove E (length (insertBelow E new (suc (t .0)) bs 0 (t .1))) (t .0) (insertBelow E new (suc (t .0)) bs 0 (t .1))
+      → (let roots : List (Node (suc (t .0))) = insertBelow E new (suc (t .0)) bs 0 (t .1) in
+      pagesOf (insertTree E new bs t) ≡ pagesOf t + pagesBelow E new (suc (t .0)) bs 0 (t .1) + pagesAbove E (length roots) (t .0) roots)
   insertTree-pages bs t =
       let row : List (Node (t .0)) = replaceIn (depth (t .0)) (insertBelow E new (t .0)) bs 0 (t .1) in
+      let roots : List (Node (suc (t .0))) = parts (depth (t .0)) E row in
       omega (
         arith,
-        grow-pages E one (length (parts (depth (t .0)) E row)) (t .0) (parts (depth (t .0)) E row) (cut-few (depth (t .0)) E one (length row) row .0),
+        grow-pages E one (length roots) (t .0) roots (cut-few (depth (t .0)) E one (length row) row .0),
         insertBelow-pages (suc (t .0)) bs 0 (t .1),
       )

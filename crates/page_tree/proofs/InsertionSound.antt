@@ -1,4 +1,4 @@
--- The pages' rules after an insertion, and how long the rows grow that are cut. Assumes nothing.
+-- The pages' rules after an insertion (01, "New parts enter the parent, which may be cut in turn"). Assumes nothing.
 use mathlib.Core.Path.{_≡_}
 use mathlib.Core.Logic.{_⊎_, inl, inr}
 use mathlib.Core.List.{List, [], _∷_}
@@ -34,26 +34,31 @@ module _ (E m : ℕ) (new : Replacement) (one : 1 ≤ E) where
   insertBelow-inPlace zero bs τ x s a e q = q
   insertBelow-inPlace (suc n) bs τ x s a e q =
       parts-inPlace n (depth (suc n) x) x (replaceIn (depth n) (insertBelow E new n) bs τ x) (s .0 .1)
-      (replaceIn-inPlace (depth n) (Sound E n) m (insertBelow E new n) (findBelow n) (Fits m new) (insertBelow-inPlace n) (depth (suc n) x) bs τ x (s .0 .0) (s .1) a e q)
+      (replaceIn-inPlace (depth n) (Sound E n) m (insertBelow E new n) (findBelow n) (Fits m new) (insertBelow-inPlace n) (depth (suc n) x) bs τ x
+      (s .0 .0) (s .1) a e q)
 
   -- So may the row of a page before it is cut.
   pub row-inPlace : (n : ℕ) (bs : List ℕ) (τ : ℕ) (page : Node (suc n)) → Sound E (suc n) page → Rising bs → Beyond (depth (suc n) page) bs
       → Fits m new (findBelow (suc n) bs τ page)
       → InPlace (depth n) (Sound E n) m (depth (suc n) page) page (replaceIn (depth n) (insertBelow E new n) bs τ page)
   row-inPlace n bs τ page s a e q =
-      replaceIn-inPlace (depth n) (Sound E n) m (insertBelow E new n) (findBelow n) (Fits m new) (insertBelow-inPlace n) (depth (suc n) page) bs τ page (s .0 .0) (s .1) a e q
+      replaceIn-inPlace (depth n) (Sound E n) m (insertBelow E new n) (findBelow n) (Fits m new) (insertBelow-inPlace n)
+      (depth (suc n) page) bs τ page (s .0 .0) (s .1) a e q
 
-module _ (E m : ℕ) (new : Replacement) (bs : List ℕ) (t : Tree) (two : 2 ≤ E) (s : SoundTree E t) (a : Rising bs) (e : Beyond (depth (suc (t .0)) (t .1)) bs) (q : Fits m new (findIn bs t)) where
+module _ (E m : ℕ) (new : Replacement) (bs : List ℕ) (t : Tree) (two : 2 ≤ E) (s : SoundTree E t) (a : Rising bs)
+    (e : Beyond (depth (suc (t .0)) (t .1)) bs) (q : Fits m new (findIn bs t)) where
   -- The parts of the root.
   abbrev roots : List (Node (suc (t .0)))
   roots = insertBelow E new (suc (t .0)) bs 0 (t .1)
 
+  -- They may stand in its place.
   roots-inPlace : InPlace (depth (suc (t .0))) (Sound E (suc (t .0))) m (depth (suc (t .0)) (t .1)) (t .1 ∷ []) roots
   roots-inPlace = insertBelow-inPlace E m new (omega arith) (suc (t .0)) bs 0 (t .1) s a e q
 
   -- The pages' rules hold afterwards.
   pub insertTree-sound : SoundTree E (insertTree E new bs t)
-  insertTree-sound = grow-sound E two (length roots) (t .0) roots (depth (suc (t .0)) (t .1)) (roots-inPlace .closed) (roots-inPlace .good) (omega arith) .0
+  insertTree-sound =
+      grow-sound E two (length roots) (t .0) roots (depth (suc (t .0)) (t .1)) (roots-inPlace .closed) (roots-inPlace .good) (omega arith) .0
 
   -- "a root above level 0 has at least two entries", afterwards too.
   pub insertTree-root : RootRule t → RootRule (insertTree E new bs t)
@@ -64,4 +69,6 @@ module _ (E m : ℕ) (new : Replacement) (bs : List ℕ) (t : Tree) (two : 2 ≤
 
       cases : (roots ≡ row ∷ []) ⊎ (2 ≤ length roots) → RootRule (grown E (t .0) roots)
       cases (inl w) = rw w (λ g. omega (arith, r g, row-inPlace E m new (omega arith) (t .0) bs 0 (t .1) s a e q .longer))
-      cases (inr k) = λ g. grow-sound E two (length roots) (t .0) roots (depth (suc (t .0)) (t .1)) (roots-inPlace .closed) (roots-inPlace .good) (omega arith) .1 k
+      cases (inr k) =
+          λ g. grow-sound E two (length roots) (t .0) roots (depth (suc (t .0)) (t .1)) (roots-inPlace .closed) (roots-inPlace .good)
+          (omega arith) .1 k

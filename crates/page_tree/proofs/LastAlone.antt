@@ -1,5 +1,5 @@
 -- An entry that ends its page and is no shallower than the entry before it is alone in it, at every level. Assumes nothing.
-use mathlib.Core.Path.{_≡_, refl, ap, sym, _∙_}
+use mathlib.Core.Path.{_≡_, ap, sym, _∙_}
 use mathlib.Core.Option.{none}
 use mathlib.Core.List.{List, [], _∷_, _++_, append-nil}
 use Prim.Native.Nat.{ℕ, zero, suc, _≤_, _<_}
@@ -11,6 +11,7 @@ use Rattle.page_tree.specs.Rows.{flats, Closed, lastDepth}
 use Rattle.page_tree.specs.Tree.{Node, depth, leaves, Sound}
 use Rattle.page_tree.proofs.ClosedRows.{closed-nonempty}
 use Rattle.page_tree.proofs.TreeLaws.{closed-leaves}
+use Rattle.page_tree.proofs.DeletionSteps.{dummy-after}
 
 -- The entry stands alone: one entry in each page down to it.
 abbrev pub Alone : (n : ℕ) → Node n → Entry → Type 0
@@ -42,7 +43,7 @@ closed-before depthA c x [] y h = omega (arith, h .0, h .1)
 closed-before depthA c x (z ∷ zs) y h = closed-before depthA c z zs y (h .1)
 
 module _ (E n : ℕ) (page : Node (suc n)) (s : Sound E (suc n) page) where
-  -- A 0-leaf, or any entry no shallower than the one before it, that is last in a page is alone in it.
+  -- A 0-leaf with a shallower next, or any entry no shallower than the one before it, that is last in a page is alone in it.
   pub last-alone : (es : List Entry) (e : Entry) → leaves (suc n) page ≡ es ++ e ∷ [] → lastDepth (depth 0) 0 es ≤ depth 0 e → Alone (suc n) page e
   last-alone [] e h l = leaves-alone E (suc n) page e s h
   last-alone (x ∷ xs) e h l = absurd (omega (arith, closed-before (depth 0) (depth (suc n) page) x xs e (rw h at (closed-leaves E (suc n) page s))))
@@ -50,12 +51,5 @@ module _ (E n : ℕ) (page : Node (suc n)) (s : Sound E (suc n) page) where
   -- A dummy that is last in a page is alone in it.
   pub dummy-alone : (es : List Entry) (d : ℕ) → Neighbours (leaves (suc n) page) → leaves (suc n) page ≡ es ++ entry d none ∷ []
       → Alone (suc n) page (entry d none)
-  dummy-alone es d r h = last-alone es (entry d none) h (before es (rw h at r))
-    where
-      after : (x : Entry) (xs : List Entry) → Neighbours (x ∷ xs ++ entry d none ∷ []) → lastDepth (depth 0) (depth 0 x) xs ≤ d
-      after (entry a p) [] q = omega (arith, q .0 .before-dummy refl)
-      after x (y ∷ ys) q = after y ys (q .1)
-
-      before : (es : List Entry) → Neighbours (es ++ entry d none ∷ []) → lastDepth (depth 0) 0 es ≤ d
-      before [] q = omega arith
-      before (x ∷ xs) q = after x xs q
+  dummy-alone [] d r h = last-alone [] (entry d none) h (omega arith)
+  dummy-alone (x ∷ xs) d r h = last-alone (x ∷ xs) (entry d none) h (omega (arith, dummy-after d x xs (rw h at r)))

@@ -2,9 +2,9 @@ pub mod ListLaws
 pub mod ClosedRows
 pub mod Splitting
 pub mod CuttingLaws
-pub mod CuttingMaps
 pub mod WalkLaws
 pub mod WalkPlaces
+pub mod RowMaps
 pub mod PagePlaces
 pub mod TreeLaws
 pub mod FindingLaws

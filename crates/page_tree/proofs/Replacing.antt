@@ -38,7 +38,8 @@ module _ {A : Type 0} (depth : A → ℕ) (Good : A → Type 0) (m : ℕ) where
 
   -- new puts a row in the place of the thing found, if At holds of what at finds there.
   module _ (new : List ℕ → ℕ → A → List A) (at : List ℕ → ℕ → A → Found) (At : Found → Type 0)
-      (ok : (bs : List ℕ) (τ : ℕ) (x : A) → Good x → Rising bs → Beyond (depth x) bs → At (at bs τ x) → InPlace depth Good m (depth x) (x ∷ []) (new bs τ x)) where
+      (ok : (bs : List ℕ) (τ : ℕ) (x : A) → Good x → Rising bs → Beyond (depth x) bs → At (at bs τ x)
+      → InPlace depth Good m (depth x) (x ∷ []) (new bs τ x)) where
     -- So it does with a row.
     pub replaceIn-inPlace : (c : ℕ) (bs : List ℕ) (τ : ℕ) (xs : List A) → Closed depth c xs → All Good xs → Rising bs → Beyond c bs
         → At (walk depth (λ bs τ x xs. at bs τ x) (λ x r. r) nowhere bs τ xs) → InPlace depth Good m c xs (replaceIn depth new bs τ xs)
@@ -46,7 +47,8 @@ module _ {A : Type 0} (depth : A → ℕ) (Good : A → Type 0) (m : ℕ) where
         walk-induction depth (λ bs τ x xs. new bs τ x ++ xs) (λ x r. x ∷ r) [] Good c
         (λ bs τ xs row. At (walk depth (λ bs τ x xs. at bs τ x) (λ x r. r) nowhere bs τ xs) → InPlace depth Good m c xs row)
         (λ bs τ x xs cl p a e q.
-        inPlace-front c x xs (new bs τ x) cl (p .1) (ok bs τ x (p .0) a e (rw (walk-stop depth (λ bs τ x xs. at bs τ x) (λ x r. r) nowhere bs τ x xs e) at q)))
+        inPlace-front c x xs (new bs τ x) cl (p .1)
+        (ok bs τ x (p .0) a e (rw (walk-stop depth (λ bs τ x xs. at bs τ x) (λ x r. r) nowhere bs τ x xs e) at q)))
         (λ b bs τ x y ys row l p h ih q.
         let o = ih (rw (walk-pass depth (λ bs τ x xs. at bs τ x) (λ x r. r) nowhere b bs τ x (y ∷ ys) h) at q) in
         record {

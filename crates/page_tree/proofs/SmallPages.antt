@@ -34,6 +34,7 @@ rootDepths t = map (depth (t .0)) (t .1)
 abbrev pub keys10 : List ℕ
 keys10 = 0 ∷ 0b10101010 ∷ 0b10101100 ∷ 0b00000000 ∷ 0b01000000 ∷ []
 
+-- The tree of P10.
 abbrev pub tree10 : Tree
 tree10 = changes 8 5 keys10 (on 1 ∷ on 2 ∷ on 3 ∷ on 4 ∷ [])
 
@@ -56,12 +57,15 @@ pub record SmallPages : Type 0 where
   -- Row 8: "E 2, W 17, the two largest keys".
   pub row8-level : largestTwo 17 131070 131071 .0 ≡ 16
   -- Histories, with what another implementation gives.
-  pub history1 : changes 8 2 (96 ∷ 105 ∷ 160 ∷ 0 ∷ []) (on 0 ∷ off 0 ∷ on 1 ∷ on 2 ∷ on 3 ∷ off 1 ∷ []) ≡ (1, (entry 1 (some 3) ∷ []) ∷ (entry 0 (some 2) ∷ []) ∷ [])
+  pub history1 :
+      changes 8 2 (96 ∷ 105 ∷ 160 ∷ 0 ∷ []) (on 0 ∷ off 0 ∷ on 1 ∷ on 2 ∷ on 3 ∷ off 1 ∷ [])
+      ≡ (1, (entry 1 (some 3) ∷ []) ∷ (entry 0 (some 2) ∷ []) ∷ [])
   pub history2 :
       changes 8 3 (90 ∷ 93 ∷ 189 ∷ 64 ∷ 27 ∷ 1 ∷ []) (on 0 ∷ off 0 ∷ on 1 ∷ off 1 ∷ on 2 ∷ on 3 ∷ on 4 ∷ on 5 ∷ off 5 ∷ [])
       ≡ (1, (entry 2 (some 4) ∷ entry 1 (some 3) ∷ []) ∷ (entry 0 (some 2) ∷ []) ∷ [])
   pub history3 :
-      changes 8 2 (52 ∷ 2 ∷ 11 ∷ 46 ∷ 187 ∷ 114 ∷ 0 ∷ 99 ∷ 127 ∷ []) (on 0 ∷ on 1 ∷ on 2 ∷ off 2 ∷ off 0 ∷ on 3 ∷ on 4 ∷ on 5 ∷ on 6 ∷ on 7 ∷ on 8 ∷ off 5 ∷ [])
+      changes 8 2 (52 ∷ 2 ∷ 11 ∷ 46 ∷ 187 ∷ 114 ∷ 0 ∷ 99 ∷ 127 ∷ [])
+      (on 0 ∷ on 1 ∷ on 2 ∷ off 2 ∷ off 0 ∷ on 3 ∷ on 4 ∷ on 5 ∷ on 6 ∷ on 7 ∷ on 8 ∷ off 5 ∷ [])
       ≡ (
         4,
         ((((entry 7 (some 6) ∷ entry 3 (some 1) ∷ []) ∷ (entry 2 (some 3) ∷ []) ∷ []) ∷ [])

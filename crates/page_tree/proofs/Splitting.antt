@@ -86,7 +86,8 @@ module _ {A : Type 0} (depth : A → ℕ) where
 
   -- Neither part is empty, and no entry is lost.
   pub split-sizes : (row : List A) → 2 ≤ length row
-      → (1 ≤ length (split depth row .1)) × (1 ≤ length (split depth row .2)) × (length (split depth row .1) + length (split depth row .2) ≡ length row)
+      → (1 ≤ length (split depth row .1)) × (1 ≤ length (split depth row .2))
+      × (length (split depth row .1) + length (split depth row .2) ≡ length row)
   split-sizes row n =
       let s = split-shallowest depth row n in (
         closed-nonempty depth (split depth row .0) (split depth row .1) (s .first),
@@ -96,7 +97,9 @@ module _ {A : Type 0} (depth : A → ℕ) where
 
   -- Of a closed row the left part is closed by the shallowest depth, the right part as the row was.
   pub split-closed : (c : ℕ) (row : List A) → 2 ≤ length row → Closed depth c row → (c < split depth row .0) × Closed depth c (split depth row .2)
-  split-closed c row n h = let s = split-shallowest depth row n in closed-parts c (split depth row .0) (split depth row .1) (split depth row .2) (s .first) (s .last) (rw (s .joined) h)
+  split-closed c row n h =
+      let s = split-shallowest depth row n in
+      closed-parts c (split depth row .0) (split depth row .1) (split depth row .2) (s .first) (s .last) (rw (s .joined) h)
     where
       closed-parts : (c m : ℕ) (left right : List A) → Closed depth m left → 1 ≤ length right → Closed depth c (left ++ right)
           → (c < m) × Closed depth c right

@@ -38,7 +38,8 @@ module _ {S : Type 0} (f : S → Entry → S) where
   pub foldl-flats : {X : Type 0} (g : S → X → S) (leavesX : X → List Entry) → ((s : S) (x : X) → g s x ≡ foldl f s (leavesX x))
       → (s : S) (xs : List X) → foldl g s xs ≡ foldl f s (flats leavesX xs)
   foldl-flats g leavesX e s [] = refl
-  foldl-flats g leavesX e s (x ∷ xs) = rw (e s x) (foldl-flats g leavesX e (foldl f s (leavesX x)) xs) ∙ sym (foldl-append f s (leavesX x) (flats leavesX xs))
+  foldl-flats g leavesX e s (x ∷ xs) =
+      rw (e s x) (foldl-flats g leavesX e (foldl f s (leavesX x)) xs) ∙ sym (foldl-append f s (leavesX x) (flats leavesX xs))
 
   -- The fold over the pages is the fold over level 0.
   pub fold-leaves : (n : ℕ) (s : S) (x : Node n) → foldBelow n s x ≡ foldl f s (leaves n x)

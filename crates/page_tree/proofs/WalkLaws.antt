@@ -57,9 +57,10 @@ module _ {A B : Type 0} (depth : A → ℕ) (found : List ℕ → ℕ → A → 
 
   -- What holds where the walk stops, and of a row with one thing more that is passed, holds of every row that c closes.
   module _ (Good : A → Type 0) (c : ℕ) (P : List ℕ → ℕ → List A → B → Type 0)
-      (stop : (bs : List ℕ) (τ : ℕ) (x : A) (xs : List A) → Closed depth c (x ∷ xs) → All Good (x ∷ xs) → Rising bs → Beyond (depth x) bs → P bs τ (x ∷ xs) (found bs τ x xs))
-      (pass : (b : ℕ) (bs : List ℕ) (τ : ℕ) (x y : A) (ys : List A) (r : B) → c < depth x → All Good (x ∷ y ∷ ys) → b ≤ depth x → P (rest (depth x) b bs) (depth x) (y ∷ ys) r
-      → P (b ∷ bs) τ (x ∷ y ∷ ys) (passed x r)) where
+      (stop : (bs : List ℕ) (τ : ℕ) (x : A) (xs : List A) → Closed depth c (x ∷ xs) → All Good (x ∷ xs) → Rising bs → Beyond (depth x) bs
+      → P bs τ (x ∷ xs) (found bs τ x xs))
+      (pass : (b : ℕ) (bs : List ℕ) (τ : ℕ) (x y : A) (ys : List A) (r : B) → c < depth x → All Good (x ∷ y ∷ ys) → b ≤ depth x
+      → P (rest (depth x) b bs) (depth x) (y ∷ ys) r → P (b ∷ bs) τ (x ∷ y ∷ ys) (passed x r)) where
     pub walk-induction : (bs : List ℕ) (τ : ℕ) (xs : List A) → Closed depth c xs → All Good xs → Rising bs → Beyond c bs
         → P bs τ xs (walk depth found passed none bs τ xs)
     walk-induction bs τ [] cl p a e = absurd cl
@@ -68,7 +69,8 @@ module _ {A B : Type 0} (depth : A → ℕ) (found : List ℕ → ℕ → A → 
         let g = beyond-less (depth x) c (b ∷ bs) (omega arith) e in
         rw (lt-ltb (depth x) b (g .0)) (stop (b ∷ bs) τ x [] cl p a g)
     walk-induction (b ∷ bs) τ (x ∷ y ∷ ys) cl p a e =
-        step (ltb (depth x) b) refl (walk-induction (rest (depth x) b bs) (depth x) (y ∷ ys) (cl .1) (p .1) (rest-rising (depth x) b bs a) (rest-beyond c (depth x) b bs e))
+        step (ltb (depth x) b) refl (walk-induction (rest (depth x) b bs) (depth x) (y ∷ ys) (cl .1) (p .1) (rest-rising (depth x) b bs a)
+        (rest-beyond c (depth x) b bs e))
       where
         step : (t : Bool) → ltb (depth x) b ≡ t
             → P (rest (depth x) b bs) (depth x) (y ∷ ys) (walk depth found passed none (rest (depth x) b bs) (depth x) (y ∷ ys))

@@ -68,7 +68,8 @@ module _ {A : Type 0} (depth : A → ℕ) where
   module _ {B : Type 0} (found : List ℕ → ℕ → A → List A → B) (passed : A → B → B) (none : B) where
     -- The walk from the start is what was passed and the walk over the rest of the row.
     pub walk-passes : (bs : List ℕ) (τ : ℕ) (xs ys : List A) → Passes bs xs
-        → walk depth found passed none bs τ (xs ++ ys) ≡ foldr passed (walk depth found passed none (positionsAfter bs xs) (lastDepth depth τ xs) ys) xs
+        → walk depth found passed none bs τ (xs ++ ys)
+        ≡ foldr passed (walk depth found passed none (positionsAfter bs xs) (lastDepth depth τ xs) ys) xs
     walk-passes bs τ [] ys p = refl
     walk-passes [] τ (x ∷ xs) ys p = absurd p
     walk-passes (b ∷ bs) τ (x ∷ xs) ys p = rw (le-ltb (depth x) b (p .0)) (ap (passed x) (walk-passes (rest (depth x) b bs) (depth x) xs ys (p .1)))
@@ -76,7 +77,8 @@ module _ {A : Type 0} (depth : A → ℕ) where
     -- The walk at the place where it stops.
     pub walk-at : (bs : List ℕ) (τ : ℕ) (xs : List A) (y : A) (ys : List A) → Passes bs xs → Stops (positionsAfter bs xs) y
         → walk depth found passed none bs τ (xs ++ (y ∷ ys)) ≡ foldr passed (found (positionsAfter bs xs) (lastDepth depth τ xs) y ys) xs
-    walk-at bs τ xs y ys p s = walk-passes bs τ xs (y ∷ ys) p ∙ ap (λ (r : B). foldr passed r xs) (stop (positionsAfter bs xs) (lastDepth depth τ xs) s)
+    walk-at bs τ xs y ys p s =
+        walk-passes bs τ xs (y ∷ ys) p ∙ ap (λ (r : B). foldr passed r xs) (stop (positionsAfter bs xs) (lastDepth depth τ xs) s)
       where
         stop : (bs : List ℕ) (τ : ℕ) → Stops bs y → walk depth found passed none bs τ (y ∷ ys) ≡ found bs τ y ys
         stop [] τ s = refl
@@ -91,10 +93,10 @@ module _ {A : Type 0} (depth : A → ℕ) where
 
   -- An insertion: the row that stands for the thing found, between what was passed and what stands after it.
   pub replaceIn-at : (new : List ℕ → ℕ → A → List A) (bs : List ℕ) (τ : ℕ) (xs : List A) (y : A) (ys : List A) → Passes bs xs
-      → Stops (positionsAfter bs xs) y
-      → replaceIn depth new bs τ (xs ++ (y ∷ ys)) ≡ xs ++ (new (positionsAfter bs xs) (lastDepth depth τ xs) y ++ ys)
+      → Stops (positionsAfter bs xs) y → replaceIn depth new bs τ (xs ++ (y ∷ ys)) ≡ xs ++ (new (positionsAfter bs xs) (lastDepth depth τ xs) y ++ ys)
   replaceIn-at new bs τ xs y ys p s =
-      walk-at (λ bs τ x xs. new bs τ x ++ xs) (λ x r. x ∷ r) [] bs τ xs y ys p s ∙ sym (append-foldr xs (new (positionsAfter bs xs) (lastDepth depth τ xs) y ++ ys))
+      walk-at (λ bs τ x xs. new bs τ x ++ xs) (λ x r. x ∷ r) [] bs τ xs y ys p s ∙ sym
+      (append-foldr xs (new (positionsAfter bs xs) (lastDepth depth τ xs) y ++ ys))
 
   module _ (leaves : A → List Entry) (at : ℕ → List ℕ → ℕ → A → Left A) (ν : ℕ) (bs : List ℕ) (τ : ℕ) (xs : List A) (y : A) (ys : List A) where
     -- What is left of the thing found, with the depths before and after it.
@@ -105,5 +107,6 @@ module _ {A : Type 0} (depth : A → ℕ) where
     pub strikeIn-at : (step : Step A) → Passes bs xs → Stops (positionsAfter bs xs) y
         → strikeIn depth leaves step at ν bs τ (xs ++ (y ∷ ys)) ≡ sweep step (struck .1) xs (struck .0 ++ ys)
     strikeIn-at step p s =
-        walk-at (λ bs τ x xs. (at (nextDepth ν (flats leaves xs)) bs τ x .0 ++ xs, at (nextDepth ν (flats leaves xs)) bs τ x .1)) (over step) ([], Idle)
+        walk-at (λ bs τ x xs. (at (nextDepth ν (flats leaves xs)) bs τ x .0 ++ xs, at (nextDepth ν (flats leaves xs)) bs τ x .1)) (over step)
+        ([], Idle)
         bs τ xs y ys p s
