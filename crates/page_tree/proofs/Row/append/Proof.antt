@@ -52,7 +52,7 @@ loop-again c =
 
 returns : tie.Need-returns Inv-loop μ-loop
 returns c =
-    let all = appended-all (c .before .loop .inv .0) (c .loop-test .left) (c .before .loop .inv .3) in
+    let all = appended-all (c .before .loop .inv .0) (omega arith) (c .before .loop .inv .3) in
     record { count = all .0; entries = all .1 }
 
 pub append-spec : {M : Type 1} → statement M

@@ -71,7 +71,7 @@ returns : tie.Need-returns Inv-loop μ-loop
 returns c =
     let self = c .before .before .args .self in
     let l = c .before .loop in
-    record { count = refl; entries = swapped-all (self .depths) (self .pointers) _ _ _ _ _ _ _ (l .inv .0) (c .loop-test .left) (l .inv .1) }
+    record { count = refl; entries = swapped-all (self .depths) (self .pointers) _ _ _ _ _ _ _ (l .inv .0) (omega arith) (l .inv .1) }
 
 pub insert-spec : {M : Type 1} → statement M
 insert-spec =
