@@ -26,6 +26,5 @@ pub mod HerdPages
 pub mod SmallPages
 pub mod RowLaws
 pub mod Choice
-pub mod PartLaws
 pub mod PartEnds
 pub mod RowCuts

@@ -11,7 +11,9 @@ use borrow.Author.Tests.{leb-true, leb-false}
 use Rattle.page_tree.specs.Rows.{All, concat}
 use Rattle.page_tree.specs.Cutting.{split, cut, parts}
 use Rattle.page_tree.specs.Row.{endsOf}
-use Rattle.page_tree.proofs.PartLaws.{all-append, split-join, split-sizes, cut-fits, cut-long, cut-join, parts-again}
+use Rattle.leaf_list.proofs.Lists.{all-append}
+use Rattle.page_tree.proofs.Splitting.{split-join, split-sizes}
+use Rattle.page_tree.proofs.CuttingLaws.{cut-fits, cut-long, cut-join, parts-again}
 
 -- Where part k begins, where the parts stand one behind the other from 0 on.
 abbrev pub startOf : {A : Type 0} → List (List A) → ℕ → ℕ

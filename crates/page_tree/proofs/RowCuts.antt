@@ -11,7 +11,7 @@ use Rattle.page_tree.specs.declared.Cuts.{Cuts}
 use Rattle.page_tree.specs.Rows.{concat, lastDepth}
 use Rattle.page_tree.specs.Cutting.{split, parts}
 use Rattle.page_tree.specs.Row.{Pair, depthOf, places, rowOf, partOf, endsOf, endsIn, CutPre, CutPost, CutsPost}
-use Rattle.page_tree.proofs.PartLaws.{cut-fits, cut-join}
+use Rattle.page_tree.proofs.CuttingLaws.{cut-fits, cut-join}
 use Rattle.page_tree.proofs.PartEnds.{startOf, length-ends, end-at, end-within, part-at, start-next, all-at, parts-sizes, ends-long}
 use Rattle.page_tree.proofs.RowLaws.{Full, length-zip, place-at, length-row, part-of-row, slice-more}
 
