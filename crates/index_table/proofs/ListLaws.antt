@@ -6,6 +6,7 @@ use native.Mathlib.Omega.{arith}
 use native.Mathlib.Numerals.{add-one}
 use lib.ListN.{length, getD, take, drop, set, length-take}
 use lib.Seq.{sets, length-sets, sets-eq, take-set-le, drop-set-lt, take-at, drop-at, take-nil, getD-take, getD-drop, slice, length-slice}
+use Rattle.leaf_list.proofs.Lists.{all-at}
 use Rattle.page_tree.specs.Rows.{All}
 use Rattle.index_table.specs.Bytes.{over, table}
 
@@ -152,18 +153,9 @@ module _ {A : Type 0} where
   getD-table f j (suc n) zero d h = ap f (let e : j ≡ j + 0 = omega arith in e)
   getD-table f j (suc n) (suc i) d h = getD-table f (suc j) n i d (omega arith) ∙ ap f (let e : suc j + i ≡ j + suc i = omega arith in e)
 
--- ---- what holds of each
-
-module _ {A : Type 0} (P : A → Type 0) where
-  -- holds of the element at a place,
-  pub all-at : (l : List A) (i : ℕ) (d : A) → i < length l → All P l → P (getD l i d)
-  all-at [] i d h a = absurd (omega arith)
-  all-at (x ∷ l) zero d h a = a .0
-  all-at (x ∷ l) (suc i) d h a = all-at l i d (omega arith) (a .1)
-
-  -- and in a part, of the element at that place of the whole.
-  pub all-part : (l : List A) (from i to : ℕ) (d : A) → from ≤ i → i < to → to ≤ length l → All P (slice from to l) → P (getD l i d)
-  all-part l from i to d h g k a =
-      let e : from + (i - from) ≡ i = omega arith in
-      let s : getD (slice from to l) (i - from) d ≡ getD l i d = getD-drop from (take to l) (i - from) d ∙ rw e (getD-take to l i d g) in
-      rw s at (all-at (slice from to l) (i - from) d (omega (arith, length-slice from to l k)) a)
+-- What holds of a part holds of the element at each of its places.
+pub all-part : {A : Type 0} (P : A → Type 0) (l : List A) (from i to : ℕ) (d : A) → from ≤ i → i < to → to ≤ length l → All P (slice from to l) → P (getD l i d)
+all-part P l from i to d h g k a =
+    let e : from + (i - from) ≡ i = omega arith in
+    let s : getD (slice from to l) (i - from) d ≡ getD l i d = getD-drop from (take to l) (i - from) d ∙ rw e (getD-take to l i d g) in
+    rw s at (all-at P (slice from to l) (i - from) d (omega (arith, length-slice from to l k)) a)

@@ -1,6 +1,9 @@
 -- Facts that every element of a list has. Assumes nothing.
 use mathlib.Core.Path.{subst, sym}
 use mathlib.Core.List.{List, [], _∷_, _++_, map, List·Memᴰ, List·Memᴰ·head, List·Memᴰ·tail}
+use Prim.Native.Nat.{ℕ, zero, suc, _<_}
+use native.Mathlib.Omega.{arith}
+use lib.ListN.{length, getD}
 
 -- P of every element.
 abbrev pub All : {A : Type 0} → (A → Type 0) → List A → Type 0
@@ -27,3 +30,9 @@ module _ {A : Type 0} where
   pub all-member : (P : A → Type 0) {x : A} {xs : List A} → List·Memᴰ x xs → All P xs → P x
   all-member P (List·Memᴰ·head e) h = subst P (sym e) (h .0)
   all-member P (List·Memᴰ·tail m) h = all-member P m (h .1)
+
+  -- What holds of every element holds of the one at a place.
+  pub all-at : (P : A → Type 0) (xs : List A) (i : ℕ) (d : A) → i < length xs → All P xs → P (getD xs i d)
+  all-at P [] i d h a = absurd (omega arith)
+  all-at P (x ∷ xs) zero d h a = a .0
+  all-at P (x ∷ xs) (suc i) d h a = all-at P xs i d (omega arith) (a .1)

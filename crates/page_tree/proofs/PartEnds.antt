@@ -68,12 +68,6 @@ module _ {A : Type 0} where
   start-next (xs ∷ xss) (suc k) h =
       length-append xs (concat (take (suc k) xss)) ∙ omega (arith, length-append xs (concat (take k xss)), start-next xss k (omega arith))
 
-  -- What holds of every element holds of element k.
-  pub all-at : (P : A → Type 0) (xs : List A) (none : A) (k : ℕ) → k < length xs → All P xs → P (getD xs k none)
-  all-at P [] none k h a = absurd (omega arith)
-  all-at P (x ∷ xs) none zero h a = a .0
-  all-at P (x ∷ xs) none (suc k) h a = all-at P xs none k (omega arith) (a .1)
-
   -- The left part of a part that is two.
   pub slice-left : (from m to : ℕ) (z xs ys : List A) → m ≤ to → to ≤ length z → m ≡ from + length xs → slice from to z ≡ xs ++ ys → slice from m z ≡ xs
   slice-left from m to z xs ys h g e s =

@@ -12,7 +12,8 @@ use Rattle.page_tree.specs.Rows.{concat, lastDepth}
 use Rattle.page_tree.specs.Cutting.{split, parts}
 use Rattle.page_tree.specs.Row.{Pair, depthOf, places, rowOf, partOf, endsOf, endsIn, CutPre, CutPost, CutsPost}
 use Rattle.page_tree.proofs.CuttingLaws.{cut-fits, cut-join}
-use Rattle.page_tree.proofs.PartEnds.{startOf, length-ends, end-at, end-within, part-at, start-next, all-at, parts-sizes, ends-long}
+use Rattle.leaf_list.proofs.Lists.{all-at}
+use Rattle.page_tree.proofs.PartEnds.{startOf, length-ends, end-at, end-within, part-at, start-next, parts-sizes, ends-long}
 use Rattle.page_tree.proofs.RowLaws.{Full, length-zip, place-at, length-row, part-of-row, slice-more}
 
 -- A part is cut at m, inside it, and both its parts can be cut again, one behind the other.
@@ -115,7 +116,7 @@ cuts-part {e} {row} {cuts} one some h k l from f =
     let to = getD (cuts .ends) k 0 in
     let b : k < length ps = omega (arith, h .count) in
     let end : to ≡ startOf ps (suc k) = end-read cuts (endsOf 0 ps) k (h .ends) l ∙ end-at 0 ps k b ∙ omega arith in
-    let sized = all-at (λ xs. (1 ≤ length xs) × (length xs ≤ e)) ps [] k b (parts-sizes depthOf e one (rowOf row) some) in
+    let sized = all-at (λ xs. (1 ≤ length xs) × (length xs ≤ e)) ps k [] b (parts-sizes depthOf e one (rowOf row) some) in
     let step = start-next ps k b in
     record {
       entries =

@@ -11,6 +11,8 @@ use Rattle.page_tree.specs.Rows.{All, Closed, flats, lastDepth}
 use Rattle.page_tree.specs.Tree.{Node, depth, leaves}
 use Rattle.page_tree.specs.Walk.{rest, walk}
 use Rattle.page_tree.specs.Finding.{findBelow, nowhere}
+use Rattle.leaf_list.proofs.Lists.{all-at}
+use Rattle.page_tree.proofs.RowMaps.{lastDepth-map, positionsAfter-map, passes-map}
 use Rattle.page_tree.proofs.ListLaws.{all-left, all-right}
 use Rattle.page_tree.proofs.WalkPlaces.{Passes, positionsAfter, Stops, find-at}
 use Rattle.index_table.specs.Layout.{Layout, Ref, Within, layoutOf, pageStart, pageBytes, refAt}
@@ -21,23 +23,7 @@ use Rattle.index_table.proofs.SoundNodes.{sound-depths}
 use Rattle.table_search.specs.declared.Spot.{Spot}
 use Rattle.table_search.specs.declared.Leaf.{Leaf}
 use Rattle.table_search.specs.Places.{leftFrom, depthOf, SeekPre, Stopped, DescendPre, Descended}
-use Rattle.table_search.proofs.Stops.{all-at, read-entry}
-
--- Things with the depths of a row's entries are searched as the row is.
-module _ {A : Type 0} (d : A → ℕ) (f : Ref → A) where
-  passes-map : (bs : List ℕ) (row : List Ref) → All (λ x. d (f x) ≡ x .0) row → Passes depthOf bs row → Passes d bs (map f row)
-  passes-map bs [] h p = tt
-  passes-map [] (x ∷ row) h p = absurd p
-  passes-map (b ∷ bs) (x ∷ row) h p = rw (h .0) (p .0, passes-map (rest (x .0) b bs) row (h .1) (p .1))
-
-  positions-map : (bs : List ℕ) (row : List Ref) → All (λ x. d (f x) ≡ x .0) row → positionsAfter d bs (map f row) ≡ positionsAfter depthOf bs row
-  positions-map bs [] h = refl
-  positions-map [] (x ∷ row) h = refl
-  positions-map (b ∷ bs) (x ∷ row) h = ap (λ (m : ℕ). positionsAfter d (rest m b bs) (map f row)) (h .0) ∙ positions-map (rest (x .0) b bs) row (h .1)
-
-  last-map : (τ : ℕ) (row : List Ref) → All (λ x. d (f x) ≡ x .0) row → lastDepth d τ (map f row) ≡ lastDepth depthOf τ row
-  last-map τ [] h = refl
-  last-map τ (x ∷ row) h = ap (λ (m : ℕ). lastDepth d m (map f row)) (h .0) ∙ last-map (x .0) row (h .1)
+use Rattle.table_search.proofs.Stops.{read-entry}
 
 -- The depths of what stands above level 0 are depths of level 0.
 last-low : (w n τ : ℕ) (page : List (Node n)) → ((x : Node n) → All (λ e. entryDepth e ≤ w) (leaves n x) → depth n x ≤ w) → τ ≤ w
@@ -125,10 +111,10 @@ module _ {b : List ℕ} {e P n page w key position : ℕ} (pre : DescendPre b e 
     parted = ap (map node) (split-at row (s .at) (0, 0) (stop .inside)) ∙ map-append node (take (s .at) row) (y ∷ drop (suc (s .at)) row)
 
     left-is : positionsAfter (depth n) (leftFrom w key position) (map node (take (s .at) row)) ≡ leftFrom w key (s .position)
-    left-is = positions-map (depth n) node (leftFrom w key position) (take (s .at) row) same-passed ∙ stop .left
+    left-is = positionsAfter-map depthOf (depth n) node (leftFrom w key position) (take (s .at) row) same-passed ∙ stop .left
 
     trail-is : lastDepth (depth n) τ (map node (take (s .at) row)) ≡ s .trail
-    trail-is = last-map (depth n) node τ (take (s .at) row) same-passed ∙ stop .trail
+    trail-is = lastDepth-map depthOf (depth n) node τ (take (s .at) row) same-passed ∙ stop .trail
 
     -- The search below the page is the search below that entry, with the positions and the depth carried on.
     pub descend-step : findBelow (suc n) (leftFrom w key position) τ (nodeAt 65535 (suc n) (pagesAt (layoutOf e) b) (0, page))
@@ -137,8 +123,8 @@ module _ {b : List ℕ} {e P n page w key position : ℕ} (pre : DescendPre b e 
     descend-step =
         ap (walk (depth n) (λ bs t x xs. findBelow n bs t x) (λ x r. r) nowhere (leftFrom w key position) τ) parted
         ∙ find-at (depth n) (λ bs t x xs. findBelow n bs t x) nowhere (leftFrom w key position) τ (map node (take (s .at) row)) (node y) (map node (drop (suc (s .at)) row))
-        (passes-map (depth n) node (leftFrom w key position) (take (s .at) row) same-passed (stop .passes))
-        (subst (λ (bs : List ℕ). Stops (depth n) bs (node y)) (sym left-is) (rw (all-at (λ x. depth n (node x) ≡ x .0) row (s .at) (stop .inside) same) stop-before))
+        (passes-map depthOf (depth n) node (leftFrom w key position) (take (s .at) row) same-passed (stop .passes))
+        (subst (λ (bs : List ℕ). Stops (depth n) bs (node y)) (sym left-is) (rw (all-at (λ x. depth n (node x) ≡ x .0) row (s .at) (0, 0) (stop .inside) same) stop-before))
         ∙ (λ i. findBelow n (left-is i) (trail-is i) (node y))
 
 -- On level 0 the entry is the answer.
@@ -169,7 +155,7 @@ module _ {b : List ℕ} {e P page w key position τ : ℕ} (n : ℕ) (pre : Desc
       subst (λ (m : ℕ). DescendPre b e P n m w key (s .position)) (sym pointed)
       (record {
         closing = x .0;
-        sound = all-at (SoundBelow (layoutOf e) P (suc n) b) (pagesAt (layoutOf e) b page) (s .at) (stop .inside) (pre .sound .2);
+        sound = all-at (SoundBelow (layoutOf e) P (suc n) b) (pagesAt (layoutOf e) b page) (s .at) (0, 0) (stop .inside) (pre .sound .2);
         before = stop-before pre s stop;
         table = pre .table;
         depths = leaves-at w (suc n) (nodeAt 65535 (suc n) (pagesAt (layoutOf e) b)) (pagesAt (layoutOf e) b page) (s .at) (stop .inside) (pre .depths);

@@ -11,6 +11,7 @@ use lib.ListN.{length, getD, take, drop}
 use lib.Seq.{take-suc}
 use borrow.Author.Tests.{le-leb, lt-leb, leb-true, leb-false, ne-eqb, eq-eqb}
 use Rattle.leaf_list.specs.Keys.{bits}
+use Rattle.leaf_list.proofs.Lists.{all-at}
 use Rattle.leaf_list.specs.Search.{positions}
 use Rattle.page_tree.specs.Rows.{All, lastDepth}
 use Rattle.page_tree.specs.Walk.{rest}
@@ -78,12 +79,6 @@ passed-kept w key b d h g = record { left = rw (ne-eqb d b h); rise = omega arit
 pub passed-next : (w key b d r : ℕ) → d ≡ b → b ≤ w → NextPosition w key b r → Passed w key b d r
 passed-next w key b d r e h p = record { left = rw (eq-eqb d b e, le-leb b w h) (p .left); rise = omega (arith, p .above); high = p .within }
 
--- What holds of every entry of a row holds of each.
-pub all-at : (P : Ref → Type 0) (row : List Ref) (i : ℕ) → i < length row → All P row → P (getD row i (0, 0))
-all-at P [] i h a = absurd (omega arith)
-all-at P (x ∷ row) zero h a = a .0
-all-at P (x ∷ row) (suc i) h a = all-at P row i (omega arith) (a .1)
-
 -- The depth and the pointer that are read of an entry are the row's.
 pub read-entry : (L : Layout) (b : List ℕ) (p i : ℕ) → i < length (pagesAt L b p) → refAt L (pageBytes L b p) i ≡ getD (pagesAt L b p) i (0, 0)
 read-entry L b p i h = sym (getD-refs L (pageBytes L b p) i (0, 0) (omega (arith, length-refs L (pageBytes L b p))))
@@ -91,4 +86,4 @@ read-entry L b p i h = sym (getD-refs L (pageBytes L b p) i (0, 0) (omega (arith
 pub depth-low : {b : List ℕ} {e page w key position : ℕ} (i d : ℕ) → SeekPre b e page w key position → i < length (pagesAt (layoutOf e) b page)
     → d ≡ refAt (layoutOf e) (pageBytes (layoutOf e) b page) i .0 → d ≤ w
 depth-low {b} {e} {page} {w} i d pre h q =
-    subst (λ (n : ℕ). n ≤ w) (sym (q ∙ ap (λ (x : Ref). x .0) (read-entry (layoutOf e) b page i h))) (all-at (λ x. x .0 ≤ w) (pagesAt (layoutOf e) b page) i h (pre .depths))
+    subst (λ (n : ℕ). n ≤ w) (sym (q ∙ ap (λ (x : Ref). x .0) (read-entry (layoutOf e) b page i h))) (all-at (λ x. x .0 ≤ w) (pagesAt (layoutOf e) b page) i (0, 0) h (pre .depths))
