@@ -1,0 +1,2 @@
+pub mod FormatLimits
+pub mod EmptyTables

@@ -1,0 +1,2 @@
+// The tag index: the calls on lent tables.
+pub mod format;
