@@ -29,3 +29,4 @@ pub mod SubHerds
 pub mod CheckTests
 pub mod Check
 pub mod CheckLoop
+pub mod KeyLaws

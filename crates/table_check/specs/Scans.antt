@@ -1,0 +1,19 @@
+-- What the plain passes over bytes and records answer. Assumes nothing.
+use mathlib.Core.Path.{_≡_}
+use mathlib.Core.Bool.{Bool, true}
+use mathlib.Core.Logic.{_↔_}
+use mathlib.Core.List.{List}
+use Prim.Native.Nat.{ℕ, _<_}
+use lib.ListN.{length, getD}
+use Rattle.leaf_list.specs.Register.{countInUse}
+use Rattle.index_table.specs.Soundness.{SoundRecord}
+use Rattle.table_check.specs.declared.register.Tally.{Tally}
+
+-- Every record is sound by itself.
+abbrev pub SoundRecords : ℕ → List ℕ → List ℕ → Type 0
+SoundRecords w keys used = (r : ℕ) → r < length used → SoundRecord w (getD keys r 0) (getD used r 0)
+
+-- One pass over the register: whether every record is sound, and then how many are in use.
+pub record Tallied (w : ℕ) (keys used : List ℕ) (t : Tally) : Type 0 where
+  pub fits : (t .fits ≡ true) ↔ SoundRecords w keys used
+  pub held : t .fits ≡ true → t .held ≡ countInUse used

@@ -1,0 +1,3 @@
+// The check of the tables.
+pub mod register;
+pub mod zeros;
