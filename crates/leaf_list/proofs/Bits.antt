@@ -1,9 +1,9 @@
 -- Keys as bits and as numbers. Assumes nothing.
-use mathlib.Core.Path.{_∙_, _≡_, refl, ap, sym, subst}
+use mathlib.Core.Path.{_≡_, refl, ap, _∙_, sym, subst}
 use mathlib.Core.Logic.{_≢_}
 use mathlib.Core.Bool.{false, true, true≢false, Bool}
 use mathlib.Core.List.{_∷_, []}
-use Prim.Native.Nat.{_%_, _*_, _+_, _-_, _/_, _<_, _^_, _≤_, ℕ, zero, suc}
+use Prim.Native.Nat.{ℕ, zero, suc, _<_, _*_, _^_, _+_, _%_, _/_, _≤_, _-_}
 use native.Mathlib.Omega.{arith}
 use native.Mathlib.Nat.{zero-mul, one-mul, mod-lt, pow-suc, mod-eq-of-lt, div-eq-of-lt, mul-add-div-right, add-mul, zero-add}
 use native.Mathlib.Numerals.{one-add}
@@ -11,7 +11,7 @@ use lib.Dec.{eqb, ltb}
 use lib.Pow.{mod-pow-add, pow-add, pow-pos}
 use lib.ListN.{length, take, length-take}
 use borrow.Author.Tests.{lt-ltb, ltb-true, le-ltb, ltb-false}
-use Rattle.leaf_list.specs.Keys.{bits, value, Key, sameKey, below, zeroBits, setBit, setBitAt, bitOf}
+use Rattle.leaf_list.specs.Keys.{bits, Key, value, sameKey, below, zeroBits, setBit, setBitAt, bitOf}
 
 -- The key of n bits has n bits.
 pub bits-length : (n x : ℕ) → length (bits n x) ≡ n

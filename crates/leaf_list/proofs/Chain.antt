@@ -1,27 +1,20 @@
 -- D(i) is the discriminator of the i-th bounding node. Assumes nothing.
-use mathlib.Core.Path.{_∙_, _≡_, ap, refl}
+use mathlib.Core.Path.{_≡_, ap, refl, _∙_}
 use mathlib.Core.Bool.{true, Bool, false}
-use mathlib.Core.List.{_++_, _∷_, [], List, map, append-nil}
-use Prim.Native.Nat.{_+_, _-_, ℕ, zero, suc}
+use mathlib.Core.List.{List, [], _∷_, _++_, map, append-nil}
+use Prim.Native.Nat.{ℕ, suc, zero}
 use native.Mathlib.Omega.{arith}
 use lib.ListN.{length}
-use Rattle.leaf_list.specs.Keys.{Key, zeroBits, setBit}
-use Rattle.leaf_list.specs.LeafList.{Item, item}
+use Rattle.leaf_list.specs.Keys.{Key, setBit, zeroBits}
+use Rattle.leaf_list.specs.LeafList.{discriminator, Item, item}
 use Rattle.leaf_list.specs.Trie.{zeroSide, oneSide}
 use Rattle.leaf_list.proofs.Bits.{setBit-length, zeroBits-length}
 use Rattle.leaf_list.proofs.Stems.{boundingStems, boundingStems-suc, count-one, boundingStems-nil, count-zero, boundingStems-single, boundingStem-two, boundingStem-both}
-use Rattle.leaf_list.proofs.Intervals.{stemDepth}
-
--- The discriminator of the string of a stem.
-abbrev pub stemDiscriminator : ℕ → Key → Key
-stemDiscriminator zero p = []
-stemDiscriminator (suc n) [] = true ∷ zeroBits n
-stemDiscriminator (suc n) (x ∷ p) = x ∷ stemDiscriminator n p
 
 -- Setting bit by bit gives the discriminators of the stems.
 abbrev pub StemChain : ℕ → Key → List Key → Type 0
 StemChain n lo [] = Unit {0}
-StemChain n lo (p ∷ ps) = (setBit (suc (length p)) lo ≡ stemDiscriminator n p) × StemChain n (setBit (suc (length p)) lo) ps
+StemChain n lo (p ∷ ps) = (setBit (suc (length p)) lo ≡ discriminator n (p ++ (true ∷ []))) × StemChain n (setBit (suc (length p)) lo) ps
 
 -- With a first bit in common.
 pub chain-cons : (b : Bool) (n : ℕ) (lo : Key) (ps : List Key) → StemChain n lo ps → StemChain (suc n) (b ∷ lo) (map (λ v. b ∷ v) ps)
@@ -47,8 +40,3 @@ module _ (n : ℕ) (s : List Item) (cz : StemChain n (zeroBits n) (boundingStems
 pub chain-stems : (n : ℕ) (s : List Item) → StemChain n (zeroBits n) (boundingStems n s)
 chain-stems zero s = tt
 chain-stems (suc n) s = chain-sides n s (chain-stems n (zeroSide s)) (chain-stems n (oneSide s)) (zeroSide s) (oneSide s) refl refl
-
--- The depth of a stem by its length.
-pub stemDepth-length : (p : Key) (l : ℕ) → stemDepth l p ≡ suc (length p + l)
-stemDepth-length [] l = omega arith
-stemDepth-length (x ∷ p) l = stemDepth-length p (suc l) ∙ omega arith

@@ -1,26 +1,28 @@
 -- A list passes exactly if it is the leaf list of the register. Assumes nothing.
-use mathlib.Core.Path.{_∙_, _≡_, ap, refl, sym}
+use mathlib.Core.Path.{_≡_, refl, _∙_, ap, sym}
 use mathlib.Core.Logic.{_↔_}
-use mathlib.Core.Bool.{_&&_, Bool, false, not, and-assoc, true, and-false, cond}
+use mathlib.Core.Bool.{Bool, false, _&&_, not, and-assoc, true, and-false, cond}
 use mathlib.Core.Option.{none, some, Option}
-use mathlib.Core.List.{_++_, _∷_, List, []}
-use Prim.Native.Nat.{_+_, _-_, _<_, _^_, ℕ}
+use mathlib.Core.List.{List, _++_, [], _∷_}
+use Prim.Native.Nat.{ℕ, _+_, _<_, _^_}
 use native.Mathlib.Omega.{arith}
 use lib.Dec.{eqb}
 use lib.ListN.{length}
 use borrow.Author.Tests.{eqb-true, eq-eqb}
 use Rattle.leaf_list.specs.Keys.{setBitAt, value, zeroBits}
 use Rattle.leaf_list.specs.Entries.{Entry, entry, liveRecords, isNil}
-use Rattle.leaf_list.specs.Herd.{Sorted}
+use Rattle.leaf_list.specs.Herd.{Sorted, Narrow}
+use Rattle.leaf_list.specs.LeafList.{leafList}
 use Rattle.leaf_list.specs.Trie.{trieList}
 use Rattle.leaf_list.specs.Register.{inUse, keyAt, countInUse, herdOf}
-use Rattle.leaf_list.specs.Conditions.{run, State, step, entryFits, start, passes}
+use Rattle.leaf_list.specs.Conditions.{State, run, step, entryFits, start, passes}
 use Rattle.leaf_list.proofs.Bits.{value-zeroBits, zeroBits-length}
+use Rattle.leaf_list.proofs.Literal.{twin}
 use Rattle.leaf_list.proofs.Fitting.{Fitting}
 use Rattle.leaf_list.proofs.FittingHerds.{bitsOf}
 use Rattle.leaf_list.proofs.RegisterHerd.{herdOf-is, length-herdFrom}
-use Rattle.leaf_list.proofs.SubHerds.{fitting-leafList}
-use Rattle.leaf_list.proofs.CheckTests.{and-both, test-fitting, fitting-test, isEmpty, fittingTest, and-left, and-right}
+use Rattle.leaf_list.proofs.SubHerds.{fitting-leafList, narrow-inUse}
+use Rattle.leaf_list.proofs.CheckTests.{isEmpty, fittingTest, test-fitting, and-left, and-right, and-both, fitting-test}
 
 -- Of three tests in a row, the middle one known.
 pub regroup : (a o k x y : Bool) → o ≡ false → x ≡ y → ((a && (not o && k)) && x) ≡ (a && (k && y))
@@ -83,7 +85,7 @@ module _ (w : ℕ) (keys used : List ℕ) (narrow : (r : ℕ) → inUse used r �
       s : State
       s = run w (keyAt keys) (inUse used) start es
 
-      law : (Fitting w (bitsOf w (keyAt keys) (inUse used)) (inUse used) (zeroBits w) 0 false es × (length (liveRecords es) ≡ length (herdOf keys used)))
+      law : (Fitting w (bitsOf w (keyAt keys)) (inUse used) (zeroBits w) 0 false es × (length (liveRecords es) ≡ length (herdOf keys used)))
           ↔ ((es ≡ trieList w (herdOf keys used)) × Sorted (herdOf keys used))
       law = fitting-leafList w (keyAt keys) (inUse used) (herdOf keys used) (herdOf-is keys used) narrow es
 
@@ -100,3 +102,25 @@ module _ (w : ℕ) (keys used : List ℕ) (narrow : (r : ℕ) → inUse used r �
           and-both (s .fits && s .closed) (eqb (s .live) (countInUse used))
           (run-from-start es ∙ fitting-test w (keyAt keys) (inUse used) narrow es (zeroBits w) 0 false (zeroBits-length w) (omega arith) (q .0))
           (eq-eqb (s .live) (countInUse used) (run-counts es ∙ q .1 ∙ length-herdFrom (keyAt keys) 0 used))
+
+-- Where no record in use has a key of more than w bits, neither has the herd of the register.
+pub herdOf-narrow : (w : ℕ) (keys used : List ℕ) → ((r : ℕ) → inUse used r ≡ true → keyAt keys r < 2 ^ w) → Narrow w (herdOf keys used)
+herdOf-narrow w keys used narrow = narrow-inUse w (keyAt keys) (inUse used) narrow (herdOf keys used) (herdOf-is keys used .keysOf) (herdOf-is keys used .uses)
+
+-- The entries pass, each after the one before and page after page, exactly if they are the leaf list of the register ("On level 0,
+-- read left to right, stands the leaf list of the register") and "No two records in use have one key" (herdOf-sorted).
+pub check-law : (w : ℕ) (keys used : List ℕ) → ((r : ℕ) → inUse used r ≡ true → keyAt keys r < 2 ^ w) → (es : List Entry)
+    → (passes (run w (keyAt keys) (inUse used) start es) (countInUse used) ≡ true) ↔ ((es ≡ leafList w (herdOf keys used)) × Sorted (herdOf keys used))
+check-law w keys used narrow es = (to, fro)
+  where
+    both : (passes (run w (keyAt keys) (inUse used) start es) (countInUse used) ≡ true) ↔ ((es ≡ trieList w (herdOf keys used)) × Sorted (herdOf keys used))
+    both = check-trieList w keys used narrow es
+
+    same : Sorted (herdOf keys used) → leafList w (herdOf keys used) ≡ trieList w (herdOf keys used)
+    same o = twin w (herdOf keys used) (herdOf-narrow w keys used narrow) o
+
+    to : passes (run w (keyAt keys) (inUse used) start es) (countInUse used) ≡ true → (es ≡ leafList w (herdOf keys used)) × Sorted (herdOf keys used)
+    to h = let q = both .0 h in (q .0 ∙ sym (same (q .1)), q .1)
+
+    fro : (es ≡ leafList w (herdOf keys used)) × Sorted (herdOf keys used) → passes (run w (keyAt keys) (inUse used) start es) (countInUse used) ≡ true
+    fro h = both .1 (h .0 ∙ same (h .1), h .1)

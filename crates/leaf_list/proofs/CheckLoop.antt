@@ -1,10 +1,10 @@
 -- What a loop that runs the check needs besides. Assumes nothing.
-use mathlib.Core.Path.{_∙_, _≡_, subst, ap, sym, refl}
+use mathlib.Core.Path.{subst, _∙_, _≡_, ap, sym, refl}
 use mathlib.Core.Logic.{_≢_}
-use mathlib.Core.Bool.{_&&_, _||_, false, Bool, true, not}
-use mathlib.Core.Option.{none, Option}
-use mathlib.Core.List.{_∷_, List, []}
-use Prim.Native.Nat.{_%_, _*_, _+_, _-_, _/_, _<_, _^_, _≤_, ℕ, suc, zero}
+use mathlib.Core.Bool.{false, Bool, true, _||_, not, _&&_}
+use mathlib.Core.Option.{Option, none}
+use mathlib.Core.List.{List, _∷_, []}
+use Prim.Native.Nat.{ℕ, _<_, _^_, suc, _≤_, _/_, _-_, _+_, _*_, _%_, zero}
 use native.Mathlib.Omega.{arith}
 use native.Mathlib.Nat.{mod-eq-of-lt, mul-comm, mul-assoc, add-mul, one-mul, pow-suc, div-eq-of-lt, mul-suc}
 use lib.Dec.{eqb, leb, ltb}
@@ -12,7 +12,7 @@ use lib.Pow.{shr-shr, pow-pos, pow-mono}
 use lib.ListN.{length, drop, getD, take}
 use lib.Seq.{drop-cons, take-suc}
 use borrow.Author.Tests.{eqb-false, ne-eqb, leb-true, not-true}
-use Rattle.leaf_list.specs.Keys.{setBit, setBitAt, value, bits, bitAt}
+use Rattle.leaf_list.specs.Keys.{setBitAt, value, setBit, bits, bitAt}
 use Rattle.leaf_list.specs.Entries.{entry, Entry}
 use Rattle.leaf_list.specs.Conditions.{State, step, run, passes, entryFits, pointerFits}
 use Rattle.leaf_list.proofs.Bits.{setBit-length, bits-length, value-bound, setBit-number, value-bits}

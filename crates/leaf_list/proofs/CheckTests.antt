@@ -1,16 +1,15 @@
 -- The tests of the check by numbers, and what they say of keys. Assumes nothing.
-use mathlib.Core.Path.{_∙_, _≡_, refl, sym, ap, subst}
-use mathlib.Core.Logic.{_≢_}
-use mathlib.Core.Bool.{_&&_, _||_, Bool, true, false, cond, true≢false, not}
+use mathlib.Core.Path.{_≡_, refl, sym, _∙_, ap, subst}
+use mathlib.Core.Bool.{Bool, true, false, _&&_, cond, true≢false, not, _||_}
 use mathlib.Core.Option.{Option, none, some}
-use mathlib.Core.List.{_∷_, List, []}
-use Prim.Native.Nat.{_-_, _/_, _<_, _^_, _≤_, ℕ, max, suc, zero}
+use mathlib.Core.List.{List, [], _∷_}
+use Prim.Native.Nat.{ℕ, _<_, _^_, _≤_, _/_, _-_, max, suc, zero}
 use native.Mathlib.Omega.{arith}
 use native.Mathlib.Nat.{mod-eq-of-lt}
 use lib.Dec.{eqb, ltb, leb}
 use lib.ListN.{take, length, length-take}
 use borrow.Author.Tests.{ltb-true, ne-eqb, eqb-true, lt-ltb, eqb-false, eq-eqb, leb-true, not-true, le-leb}
-use Rattle.leaf_list.specs.Keys.{setBit, setBitAt, bits, value, Key, bitAt, bitOf}
+use Rattle.leaf_list.specs.Keys.{setBitAt, value, bits, Key, bitAt, bitOf, setBit}
 use Rattle.leaf_list.specs.Entries.{Entry, entry, isNil}
 use Rattle.leaf_list.specs.Conditions.{entryFits, pointerFits}
 use Rattle.leaf_list.proofs.Bits.{value-take, bits-length, value-bits, value-injective, bitOf-value, setBit-length, setBit-number}
@@ -63,13 +62,13 @@ module _ (w : ℕ) (keyOf : ℕ → ℕ) (used : ℕ → Bool) (narrow : (r : �
   bits-agree : (D : Key) (r l : ℕ) → length D ≡ w → l ≤ w → used r ≡ true → take l (bits w (keyOf r)) ≡ take l D → keyOf r / 2 ^ (w - l) ≡ value D / 2 ^ (w - l)
   bits-agree D r l e h u q = sym (first-bits r l u h) ∙ ap value q ∙ value-take D l (w - l) (omega arith)
 
-  pointer-true : (D : Key) (τ d : ℕ) (p : Option ℕ) → length D ≡ w → τ ≤ w → d ≤ w → pointerFits w keyOf used (value D) τ d p ≡ true → PointerFits (bitsOf w keyOf used) used D τ d p
+  pointer-true : (D : Key) (τ d : ℕ) (p : Option ℕ) → length D ≡ w → τ ≤ w → d ≤ w → pointerFits w keyOf used (value D) τ d p ≡ true → PointerFits (bitsOf w keyOf) used D τ d p
   pointer-true D τ d none e ht hd q = λ i. ltb-true τ d (subst (λ (b : Bool). (b || ltb τ d) ≡ true) (ne-eqb τ 0 i) q)
   pointer-true D τ d (some r) e ht hd q =
       let u : used r ≡ true = and-left (used r) (eqb (keyOf r / 2 ^ (w - max τ d)) (value D / 2 ^ (w - max τ d))) q in
       (u, agree-bits D r (max τ d) e (omega arith) u (eqb-true (keyOf r / 2 ^ (w - max τ d)) (value D / 2 ^ (w - max τ d)) (and-right (used r) (eqb (keyOf r / 2 ^ (w - max τ d)) (value D / 2 ^ (w - max τ d))) q)))
 
-  true-pointer : (D : Key) (τ d : ℕ) (p : Option ℕ) → length D ≡ w → τ ≤ w → d ≤ w → PointerFits (bitsOf w keyOf used) used D τ d p → pointerFits w keyOf used (value D) τ d p ≡ true
+  true-pointer : (D : Key) (τ d : ℕ) (p : Option ℕ) → length D ≡ w → τ ≤ w → d ≤ w → PointerFits (bitsOf w keyOf) used D τ d p → pointerFits w keyOf used (value D) τ d p ≡ true
   true-pointer D τ d none e ht hd q = go (eqb τ 0) refl
     where
       go : (b : Bool) → eqb τ 0 ≡ b → (b || ltb τ d) ≡ true
@@ -84,7 +83,7 @@ module _ (w : ℕ) (keyOf : ℕ → ℕ) (used : ℕ → Bool) (narrow : (r : �
   isEmpty-nil [] h = refl
   isEmpty-nil (x ∷ rest) h = absurd (true≢false (sym h))
 
-  pub test-fitting : (es : List Entry) (D : Key) (τ : ℕ) (dummy : Bool) → length D ≡ w → τ ≤ w → fittingTest w keyOf used (value D) τ dummy es ≡ true → Fitting w (bitsOf w keyOf used) used D τ dummy es
+  pub test-fitting : (es : List Entry) (D : Key) (τ : ℕ) (dummy : Bool) → length D ≡ w → τ ≤ w → fittingTest w keyOf used (value D) τ dummy es ≡ true → Fitting w (bitsOf w keyOf) used D τ dummy es
   test-fitting [] D τ dummy e ht h = absurd (true≢false (sym h))
   test-fitting (entry zero p ∷ rest) D τ dummy e ht h =
       let a₁ = and-left (entryFits w keyOf used (value D) τ dummy 0 p) (isEmpty rest) h in
@@ -114,7 +113,7 @@ module _ (w : ℕ) (keyOf : ℕ → ℕ) (used : ℕ → Bool) (narrow : (r : �
             (rw (setBit-number w d D e l) (and-right (entryFits w keyOf used (value D) τ dummy (suc d) p) (fittingTest w keyOf used (setBitAt w (suc d) (value D)) (suc d) (isNil p) rest) h′)),
       )
 
-  pub fitting-test : (es : List Entry) (D : Key) (τ : ℕ) (dummy : Bool) → length D ≡ w → τ ≤ w → Fitting w (bitsOf w keyOf used) used D τ dummy es → fittingTest w keyOf used (value D) τ dummy es ≡ true
+  pub fitting-test : (es : List Entry) (D : Key) (τ : ℕ) (dummy : Bool) → length D ≡ w → τ ≤ w → Fitting w (bitsOf w keyOf) used D τ dummy es → fittingTest w keyOf used (value D) τ dummy es ≡ true
   fitting-test [] D τ dummy e ht s = absurd s
   fitting-test (entry zero p ∷ rest) D τ dummy e ht s = rw (s .0, le-leb 0 w (omega arith), s .1, true-pointer D τ 0 p e ht (omega arith) (s .2))
   fitting-test (entry (suc d) p ∷ rest) D τ dummy e ht s =

@@ -1,9 +1,9 @@
 -- Deletion by the index of the found entry, as a loop does it. Assumes nothing.
-use mathlib.Core.Path.{_∙_, _≡_, refl, sym, ap}
-use mathlib.Core.Bool.{_&&_, Bool, true, false, cond}
+use mathlib.Core.Path.{_≡_, refl, sym, _∙_, ap}
+use mathlib.Core.Bool.{Bool, true, false, cond, _&&_}
 use mathlib.Core.Option.{none, some, Option}
-use mathlib.Core.List.{reverseAux-append, _++_, _∷_, List, reverseAux, []}
-use Prim.Native.Nat.{_-_, _<_, _≤_, ℕ, zero, suc}
+use mathlib.Core.List.{List, _++_, _∷_, reverseAux, [], reverseAux-append}
+use Prim.Native.Nat.{ℕ, zero, suc, _<_, _≤_}
 use native.Mathlib.Omega.{arith}
 use lib.Dec.{ltb}
 use lib.ListN.{getD, length, take, drop, set, drop-of-length-le}
@@ -12,7 +12,7 @@ use borrow.Author.Tests.{ltb-true, ltb-false}
 use Rattle.leaf_list.specs.Keys.{Key}
 use Rattle.leaf_list.specs.Entries.{Entry, entry, depthOf, pointerOf}
 use Rattle.leaf_list.specs.Search.{positions}
-use Rattle.leaf_list.specs.Deletion.{deleteOther, dropDummies, deleteAt, deletion}
+use Rattle.leaf_list.specs.Deletion.{dropDummies, deleteOther, deleteAt, deletion}
 use Rattle.leaf_list.proofs.Indexed.{put-back, foundIndex, search-index}
 
 -- The entry is a dummy.

@@ -1,12 +1,14 @@
 -- The depths of a written trie: those of a node but its last are deeper than the node. Assumes nothing.
-use mathlib.Core.Path.{_∙_, _≡_, ap, refl}
-use mathlib.Core.Option.{none, some}
-use mathlib.Core.List.{_++_, _∷_, List, [], append-assoc}
-use Prim.Native.Nat.{_-_, _<_, ℕ, suc}
+use mathlib.Core.Path.{_≡_, refl, ap, _∙_, sym}
+use mathlib.Core.Logic.{_≢_}
+use mathlib.Core.Bool.{true, Bool, true≢false, false}
+use mathlib.Core.Option.{none, some, Option}
+use mathlib.Core.List.{List, [], _∷_, _++_, append-assoc}
+use Prim.Native.Nat.{ℕ, suc, _<_, _≤_, _+_, zero}
 use native.Mathlib.Omega.{arith}
-use Rattle.leaf_list.specs.Entries.{Entry, entry}
-use Rattle.leaf_list.specs.Trie.{Trie, leaf, zero-only, one-only, fork, write}
-use Rattle.leaf_list.proofs.Tries.{lastRecord}
+use Rattle.leaf_list.specs.Entries.{Entry, entry, depthOf, isNil, pointerOf}
+use Rattle.leaf_list.specs.Trie.{Trie, leaf, zero-only, one-only, fork, write, writeAll}
+use Rattle.leaf_list.proofs.Tries.{lastRecord, Sized, Given, Branching, Pruned}
 
 -- The entries of a node but its last.
 abbrev pub frontOf : ℕ → Trie → List Entry
@@ -45,3 +47,118 @@ front-deeper (one-only t) l = (omega arith, deeper-less l (frontOf (suc l) t) (f
 front-deeper (fork a b) l =
     deeper-append l (frontOf (suc l) a) (entry (suc l) (some (lastRecord a)) ∷ frontOf (suc l) b) (deeper-less l (frontOf (suc l) a) (front-deeper a (suc l)))
     (omega arith, deeper-less l (frontOf (suc l) b) (front-deeper b (suc l)))
+
+-- No depth is above w.
+abbrev pub DepthsWithin : ℕ → List Entry → Type 0
+DepthsWithin w [] = Unit {0}
+DepthsWithin w (entry d p ∷ es) = (d ≤ w) × DepthsWithin w es
+
+-- The depths of a node of n bits at depth l.
+pub depthsWithin-write : (t : Trie) (n w l c : ℕ) (rest : List Entry) → Sized n t → l + n ≤ w → c ≤ w → DepthsWithin w rest → DepthsWithin w (write l t c rest)
+depthsWithin-write (leaf k r) n w l c rest f h hc hR = (hc, hR)
+depthsWithin-write (zero-only t) zero w l c rest f h hc hR = absurd f
+depthsWithin-write (one-only t) zero w l c rest f h hc hR = absurd f
+depthsWithin-write (fork a b) zero w l c rest f h hc hR = absurd f
+depthsWithin-write (zero-only t) (suc n) w l c rest f h hc hR = depthsWithin-write t n w (suc l) c rest f (omega arith) hc hR
+depthsWithin-write (one-only t) (suc n) w l c rest f h hc hR = (omega arith, depthsWithin-write t n w (suc l) c rest f (omega arith) hc hR)
+depthsWithin-write (fork a b) (suc n) w l c rest f h hc hR =
+    depthsWithin-write a n w (suc l) (suc l) (write (suc l) b c rest) (f .0) (omega arith) (omega arith) (depthsWithin-write b n w (suc l) c rest (f .1) (omega arith) hc hR)
+
+-- The depths of a whole trie.
+pub depthsWithin-writeAll : (n : ℕ) (o : Option Trie) → Given (Sized n) o → DepthsWithin n (writeAll o)
+depthsWithin-writeAll n none f = (omega arith, tt)
+depthsWithin-writeAll n (some t) f = depthsWithin-write t n n 0 0 [] f (omega arith) (omega arith) tt
+
+-- A row of things with a depth is closed by c: its last depth is c, and all others are above c.
+module _ {A : Type 0} (depth : A → ℕ) where
+  abbrev pub Closed : ℕ → List A → Type 0
+  Closed c [] = ⊥
+  Closed c (x ∷ []) = depth x ≡ c
+  Closed c (x ∷ y ∷ xs) = (c < depth x) × Closed c (y ∷ xs)
+
+  -- One more in front.
+  pub closed-cons : (c : ℕ) (x : A) (xs : List A) → c < depth x → Closed c xs → Closed c (x ∷ xs)
+  closed-cons c x [] h g = absurd g
+  closed-cons c x (y ∷ xs) h g = (h, g)
+
+-- The entries of a node before a closed row.
+pub closed-write : (t : Trie) (l b c : ℕ) (rest : List Entry) → b ≤ l → Closed depthOf b (entry c (some (lastRecord t)) ∷ rest) → Closed depthOf b (write l t c rest)
+closed-write (leaf k r) l b c rest h g = g
+closed-write (zero-only t) l b c rest h g = closed-write t (suc l) b c rest (omega arith) g
+closed-write (one-only t) l b c rest h g =
+    closed-cons depthOf b (entry (suc l) none) (write (suc l) t c rest) (omega arith) (closed-write t (suc l) b c rest (omega arith) g)
+closed-write (fork a d) l b c rest h g =
+    closed-write a (suc l) b (suc l) (write (suc l) d c rest) (omega arith)
+    (closed-cons depthOf b (entry (suc l) (some (lastRecord a))) (write (suc l) d c rest) (omega arith) (closed-write d (suc l) b c rest (omega arith) g))
+
+-- "a last depth 0 closes the list": no other is 0.
+pub closed-writeAll : (o : Option Trie) → Closed depthOf 0 (writeAll o)
+closed-writeAll none = refl
+closed-writeAll (some t) = closed-write t 0 0 0 [] (omega arith) refl
+
+-- Two entries that stand side by side: the depths differ, and where one is a dummy the second is deeper.
+pub record Beside (e f : Entry) : Type 0 where
+  pub differ : depthOf e ≢ depthOf f
+  pub after-dummy : isNil (pointerOf e) ≡ true → depthOf e < depthOf f
+  pub before-dummy : isNil (pointerOf f) ≡ true → depthOf e < depthOf f
+
+-- So for all neighbours of a list.
+abbrev pub Neighbours : List Entry → Type 0
+Neighbours [] = Unit {0}
+Neighbours (e ∷ []) = Unit {0}
+Neighbours (e ∷ f ∷ es) = Beside e f × Neighbours (f ∷ es)
+
+-- A deeper entry may follow any.
+pub beside-deeper : (e f : Entry) → depthOf e < depthOf f → Beside e f
+beside-deeper e f h = record { differ = omega arith; after-dummy = λ i. h; before-dummy = λ i. h }
+
+-- A leaf closed by c may follow an entry of depth τ; dummy says that the entry is one.
+abbrev pub MayFollow : Trie → ℕ → ℕ → Bool → Type 0
+MayFollow (leaf k r) τ c dummy = (τ ≢ c) × (dummy ≡ true → τ < c)
+MayFollow (zero-only t) τ c dummy = Unit {0}
+MayFollow (one-only t) τ c dummy = Unit {0}
+MayFollow (fork a b) τ c dummy = Unit {0}
+
+-- It is kept.
+pub mayFollow : (t : Trie) (τ c : ℕ) (dummy : Bool) → τ ≢ c → (dummy ≡ true → τ < c) → MayFollow t τ c dummy
+mayFollow (leaf k r) τ c dummy h g = (h, g)
+mayFollow (zero-only t) τ c dummy h g = tt
+mayFollow (one-only t) τ c dummy h g = tt
+mayFollow (fork a b) τ c dummy h g = tt
+
+-- It asks nothing of a node with two keys.
+pub mayFollow-branching : (t : Trie) (τ c : ℕ) (dummy : Bool) → Branching t → MayFollow t τ c dummy
+mayFollow-branching (leaf k r) τ c dummy m = absurd m
+mayFollow-branching (zero-only t) τ c dummy m = tt
+mayFollow-branching (one-only t) τ c dummy m = tt
+mayFollow-branching (fork a b) τ c dummy m = tt
+
+-- The neighbours in the entries of a node, after an entry of depth τ.
+pub neighbours-write : (t : Trie) (l c τ : ℕ) (p : Option ℕ) (rest : List Entry) → Pruned t → c ≤ l → τ ≤ l → MayFollow t τ c (isNil p)
+    → Neighbours (entry c (some (lastRecord t)) ∷ rest) → Neighbours (entry τ p ∷ write l t c rest)
+neighbours-write (leaf k r) l c τ p rest g hc hτ m n = (record { differ = m .0; after-dummy = m .1; before-dummy = λ i. absurd (true≢false (sym i)) }, n)
+neighbours-write (zero-only t) l c τ p rest g hc hτ m n =
+    neighbours-write t (suc l) c τ p rest (g .1) (omega arith) (omega arith) (mayFollow-branching t τ c (isNil p) (g .0)) n
+neighbours-write (one-only t) l c τ p rest g hc hτ m n = (
+  beside-deeper (entry τ p) (entry (suc l) none) (omega arith),
+  neighbours-write t (suc l) c (suc l) none rest (g .1) (omega arith) (omega arith) (mayFollow-branching t (suc l) c true (g .0)) n,
+)
+neighbours-write (fork a b) l c τ p rest g hc hτ m n =
+    neighbours-write a (suc l) (suc l) τ p (write (suc l) b c rest) (g .0) (omega arith) (omega arith) (mayFollow a τ (suc l) (isNil p) (omega arith) (λ i. omega arith))
+    (neighbours-write b (suc l) c (suc l) (some (lastRecord a)) rest (g .1) hc′ (omega arith) (mayFollow b (suc l) c false (omega arith) (λ i. absurd (true≢false (sym i)))) n)
+  where
+    hc′ : c ≤ suc l
+    hc′ = omega arith
+
+-- The neighbours of a list without its first entry.
+pub neighbours-tail : (e : Entry) (es : List Entry) → Neighbours (e ∷ es) → Neighbours es
+neighbours-tail e [] n = tt
+neighbours-tail e (f ∷ es) n = n .1
+
+-- The neighbours in the entries of a whole trie; a sole entry has none.
+pub neighbours-writeAll : (o : Option Trie) → Given Pruned o → Neighbours (writeAll o)
+neighbours-writeAll none g = tt
+neighbours-writeAll (some (leaf k r)) g = tt
+neighbours-writeAll (some (zero-only t)) g = neighbours-tail (entry 0 none) (write 0 (zero-only t) 0 []) (neighbours-write (zero-only t) 0 0 0 none [] g (omega arith) (omega arith) tt tt)
+neighbours-writeAll (some (one-only t)) g = neighbours-tail (entry 0 none) (write 0 (one-only t) 0 []) (neighbours-write (one-only t) 0 0 0 none [] g (omega arith) (omega arith) tt tt)
+neighbours-writeAll (some (fork a b)) g = neighbours-tail (entry 0 none) (write 0 (fork a b) 0 []) (neighbours-write (fork a b) 0 0 0 none [] g (omega arith) (omega arith) tt tt)

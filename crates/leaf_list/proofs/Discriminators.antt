@@ -1,15 +1,15 @@
 -- Figure 6 stops at the first entry whose discriminator exceeds the key. Assumes nothing.
-use mathlib.Core.Path.{_∙_, _≡_, refl, ap, sym}
-use mathlib.Core.Bool.{_||_, cond, false, true, Bool}
+use mathlib.Core.Path.{_≡_, refl, ap, _∙_, sym}
+use mathlib.Core.Bool.{cond, _||_, false, true, Bool}
 use mathlib.Core.Option.{Option, some, none}
-use mathlib.Core.List.{_∷_, List, [], reverseAux}
-use Prim.Native.Nat.{_+_, _-_, _<_, _^_, _≤_, ℕ, zero, suc}
+use mathlib.Core.List.{List, [], _∷_, reverseAux}
+use Prim.Native.Nat.{ℕ, zero, suc, _<_, _^_}
 use native.Mathlib.Omega.{arith}
 use native.Mathlib.Nat.{mod-eq-of-lt}
 use lib.Dec.{eqb}
 use lib.ListN.{length}
 use borrow.Author.Tests.{ne-eqb}
-use Rattle.leaf_list.specs.Keys.{Key, below, setBit, zeroBits, bits, value}
+use Rattle.leaf_list.specs.Keys.{Key, below, setBit, zeroBits, value, bits}
 use Rattle.leaf_list.specs.Entries.{Entry, entry}
 use Rattle.leaf_list.specs.Herd.{Herd}
 use Rattle.leaf_list.specs.LeafList.{items}
@@ -21,6 +21,7 @@ use Rattle.leaf_list.proofs.Tries.{Sized, lastRecord, Given, sized-reac
 use Rattle.leaf_list.proofs.Places.{passFront, passed, remaining, stops-shallow, search-node}
 use Rattle.leaf_list.proofs.TrieOf.{trieOf-sized}
 use Rattle.leaf_list.proofs.HerdItems.{items-lengths}
+use Rattle.leaf_list.proofs.Depths.{DepthsWithin, depthsWithin-writeAll}
 
 -- The first entry whose discriminator is above the key K, by bits; the depth 0 stands above every key.
 abbrev pub firstAbove : Key → List Entry → Key → List Entry → List Entry × List Entry
@@ -113,11 +114,6 @@ firstAbove-node (fork a b) u (true ∷ k) (suc n) c before rest f h o =
     (below-path u (true ∷ k) (true ∷ zeroBits n) ∙ below-zeroBits k n)
     ∙ firstAbove-node b (true ∷ u) k n c (entry (suc (length u)) (some (lastRecord a)) ∷ passFront (suc (length u)) a before) rest (f .1) (omega arith) (λ k e. o (true ∷ k) (true ∷ e))
 
--- No depth is above w.
-abbrev pub DepthsWithin : ℕ → List Entry → Type 0
-DepthsWithin w [] = Unit {0}
-DepthsWithin w (entry d p ∷ es) = (d ≤ w) × DepthsWithin w es
-
 -- By numbers and by bits the same entry is found.
 pub firstExceeding-bits : (w : ℕ) (K : Key) (before : List Entry) (D : Key) (es : List Entry) → length K ≡ w → length D ≡ w → DepthsWithin w es
     → firstExceeding w (value K) before (value D) es ≡ firstAbove K before D es
@@ -130,22 +126,6 @@ firstExceeding-bits w K before D (entry (suc d) p ∷ es) hK hD h =
       below-value K (setBit (suc d) D) (hK ∙ sym (setBit-length (suc d) D ∙ hD)),
       firstExceeding-bits w K (entry (suc d) p ∷ before) (setBit (suc d) D) es hK (setBit-length (suc d) D ∙ hD) (h .1),
     )
-
--- The depths of a node of n bits at depth l.
-pub depthsWithin-write : (t : Trie) (n w l c : ℕ) (rest : List Entry) → Sized n t → l + n ≤ w → c ≤ w → DepthsWithin w rest → DepthsWithin w (write l t c rest)
-depthsWithin-write (leaf k r) n w l c rest f h hc hR = (hc, hR)
-depthsWithin-write (zero-only t) zero w l c rest f h hc hR = absurd f
-depthsWithin-write (one-only t) zero w l c rest f h hc hR = absurd f
-depthsWithin-write (fork a b) zero w l c rest f h hc hR = absurd f
-depthsWithin-write (zero-only t) (suc n) w l c rest f h hc hR = depthsWithin-write t n w (suc l) c rest f (omega arith) hc hR
-depthsWithin-write (one-only t) (suc n) w l c rest f h hc hR = (omega arith, depthsWithin-write t n w (suc l) c rest f (omega arith) hc hR)
-depthsWithin-write (fork a b) (suc n) w l c rest f h hc hR =
-    depthsWithin-write a n w (suc l) (suc l) (write (suc l) b c rest) (f .0) (omega arith) (omega arith) (depthsWithin-write b n w (suc l) c rest (f .1) (omega arith) hc hR)
-
--- The depths of a whole trie.
-pub depthsWithin-writeAll : (n : ℕ) (o : Option Trie) → Given (Sized n) o → DepthsWithin n (writeAll o)
-depthsWithin-writeAll n none f = (omega arith, tt)
-depthsWithin-writeAll n (some t) f = depthsWithin-write t n n 0 0 [] f (omega arith) (omega arith) tt
 
 -- By bits, the first exceeding entry is the one that figure 6 finds.
 pub firstAbove-search : (n : ℕ) (o : Option Trie) (k : Key) → Given (Sized n) o → length k ≡ n → firstAbove k [] (zeroBits n) (writeAll o) ≡ search [] (positions 0 k) (writeAll o)

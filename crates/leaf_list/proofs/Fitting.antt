@@ -1,10 +1,10 @@
 -- Lists whose entries fit one by one, and the tries that such a list is written from. Assumes nothing.
-use mathlib.Core.Path.{_∙_, _≡_, refl, sym, subst, ap, ap₂}
+use mathlib.Core.Path.{_≡_, _∙_, refl, sym, subst, ap, ap₂}
 use mathlib.Core.Logic.{_≢_}
 use mathlib.Core.Bool.{Bool, true, false, true≢false}
 use mathlib.Core.Option.{Option, none, some}
-use mathlib.Core.List.{_∷_, List, [], reverseAux}
-use Prim.Native.Nat.{_+_, _-_, _<_, _≤_, ℕ, max, zero, suc}
+use mathlib.Core.List.{List, [], _∷_, reverseAux}
+use Prim.Native.Nat.{ℕ, _<_, max, zero, suc, _≤_, _+_}
 use native.Mathlib.Omega.{arith}
 use lib.Dec.{eqb, leb}
 use lib.ListN.{take, length, drop, length-drop}

@@ -1,18 +1,17 @@
 -- A list that fits is the leaf list of its live records, and a leaf list fits. Assumes nothing.
-use mathlib.Core.Path.{_∙_, _≡_, ap, sym, subst, refl}
-use mathlib.Core.Logic.{_≢_}
+use mathlib.Core.Path.{_≡_, ap, sym, _∙_, subst, refl}
 use mathlib.Core.Bool.{Bool, true, false, true≢false}
 use mathlib.Core.Option.{none, some, Option}
-use mathlib.Core.List.{_∷_, List, [], reverseAux}
-use Prim.Native.Nat.{_-_, _<_, _^_, _≤_, ℕ, zero, suc}
+use mathlib.Core.List.{List, [], _∷_, reverseAux}
+use Prim.Native.Nat.{ℕ, _<_, _^_, _≤_, zero, suc}
 use native.Mathlib.Omega.{arith}
 use native.Mathlib.Nat.{mod-eq-of-lt, zero-add}
 use borrow.Author.Tests.{ltb-true}
-use Rattle.leaf_list.specs.Keys.{bits, Key, zeroBits}
+use Rattle.leaf_list.specs.Keys.{Key, bits, zeroBits}
 use Rattle.leaf_list.specs.Entries.{Entry, liveRecords, entry}
 use Rattle.leaf_list.specs.Herd.{Herd, Narrow, Above, Sorted, KeysOf, recordsOf}
-use Rattle.leaf_list.specs.LeafList.{item, items}
-use Rattle.leaf_list.specs.Trie.{Trie, leaf, zero-only, one-only, fork, trieList, write, writeAll, trieOf}
+use Rattle.leaf_list.specs.LeafList.{items, item}
+use Rattle.leaf_list.specs.Trie.{Trie, leaf, zero-only, one-only, fork, trieList, writeAll, write, trieOf}
 use Rattle.leaf_list.proofs.Bits.{below-value, bits-length, value-bits}
 use Rattle.leaf_list.proofs.Tries.{KeysIn, Pruned, Sized, Given}
 use Rattle.leaf_list.proofs.TrieOf.{trieOf-nil, trieOf-pruned, trieOf-sized, trieOf-keys}
@@ -31,24 +30,25 @@ abbrev pub AllInUse : (ℕ → Bool) → List ℕ → Type 0
 AllInUse used [] = Unit {0}
 AllInUse used (r ∷ rs) = (used r ≡ true) × AllInUse used rs
 
-module _ (w : ℕ) (keyOf : ℕ → ℕ) (used : ℕ → Bool) where
-  abbrev pub bitsOf : ℕ → Key
-  bitsOf r = bits w (keyOf r)
+-- The key of a record, as w bits.
+abbrev pub bitsOf : ℕ → (ℕ → ℕ) → ℕ → Key
+bitsOf w keyOf r = bits w (keyOf r)
 
-  leaves-items : (t : Trie) (u : Key) (rs : List ℕ) → RecordsFit w bitsOf used u t → leaves (reverseAux u) t (items w (herdWith keyOf rs)) ≡ items w (herdWith keyOf (trieRecords t rs))
+module _ (w : ℕ) (keyOf : ℕ → ℕ) (used : ℕ → Bool) where
+  leaves-items : (t : Trie) (u : Key) (rs : List ℕ) → RecordsFit w (bitsOf w keyOf) used u t → leaves (reverseAux u) t (items w (herdWith keyOf rs)) ≡ items w (herdWith keyOf (trieRecords t rs))
   leaves-items (leaf k r) u rs h = ap (λ (x : Key). item x r ∷ items w (herdWith keyOf rs)) (sym (h .1))
   leaves-items (zero-only t) u rs h = leaves-items t (false ∷ u) rs h
   leaves-items (one-only t) u rs h = leaves-items t (true ∷ u) rs h
   leaves-items (fork a b) u rs h =
       ap (leaves (reverseAux (false ∷ u)) a) (leaves-items b (true ∷ u) rs (h .1)) ∙ leaves-items a (false ∷ u) (trieRecords b rs) (h .0)
 
-  records-in-use : (t : Trie) (u : Key) (rs : List ℕ) → RecordsFit w bitsOf used u t → AllInUse used rs → AllInUse used (trieRecords t rs)
+  records-in-use : (t : Trie) (u : Key) (rs : List ℕ) → RecordsFit w (bitsOf w keyOf) used u t → AllInUse used rs → AllInUse used (trieRecords t rs)
   records-in-use (leaf k r) u rs h a = (h .0, a)
   records-in-use (zero-only t) u rs h a = records-in-use t (false ∷ u) rs h a
   records-in-use (one-only t) u rs h a = records-in-use t (true ∷ u) rs h a
   records-in-use (fork p q) u rs h a = records-in-use p (false ∷ u) (trieRecords q rs) (h .0) (records-in-use q (true ∷ u) rs (h .1) a)
 
-  records-fit : (t : Trie) (u : Key) (rs : List ℕ) → KeysIn bitsOf u t → AllInUse used (trieRecords t rs) → RecordsFit w bitsOf used u t × AllInUse used rs
+  records-fit : (t : Trie) (u : Key) (rs : List ℕ) → KeysIn (bitsOf w keyOf) u t → AllInUse used (trieRecords t rs) → RecordsFit w (bitsOf w keyOf) used u t × AllInUse used rs
   records-fit (leaf k r) u rs h a = ((a .0, h), a .1)
   records-fit (zero-only t) u rs h a = records-fit t (false ∷ u) rs h a
   records-fit (one-only t) u rs h a = records-fit t (true ∷ u) rs h a
@@ -80,7 +80,7 @@ module _ (w : ℕ) (keyOf : ℕ → ℕ) (used : ℕ → Bool) where
     own-sole : OwnList (entry 0 none ∷ [])
     own-sole = (ap writeAll (sym (trieOf-nil w)), tt, tt)
 
-    own-trie : (t : Trie) → Pruned t → Sized w t → RecordsFit w bitsOf used [] t → OwnList (write 0 t 0 [])
+    own-trie : (t : Trie) → Pruned t → Sized w t → RecordsFit w (bitsOf w keyOf) used [] t → OwnList (write 0 t 0 [])
     own-trie t g f h =
         let e : liveRecords (write 0 t 0 []) ≡ trieRecords t [] = liveRecords-write t 0 0 [] in
         let i : leaves (λ k. k) t [] ≡ items w (herdWith keyOf (trieRecords t [])) = leaves-items t [] [] h in
@@ -90,32 +90,32 @@ module _ (w : ℕ) (keyOf : ℕ → ℕ) (used : ℕ → Bool) where
           records-in-use t [] [] h tt,
         )
 
-    own-node : (es : List Entry) → NodeRead w bitsOf used [] w es → OwnList es
+    own-node : (es : List Entry) → NodeRead w (bitsOf w keyOf) used [] w es → OwnList es
     own-node es N = go (N .c) (N .low) (N .closed) (N .written)
       where
-        go : (c : ℕ) → c ≤ 0 → ClosedBy w bitsOf used (zeroBits w) c (N .rest) → es ≡ write 0 (N .trie) c (N .rest) → OwnList es
+        go : (c : ℕ) → c ≤ 0 → ClosedBy w (bitsOf w keyOf) used (zeroBits w) c (N .rest) → es ≡ write 0 (N .trie) c (N .rest) → OwnList es
         go zero h q e = subst OwnList (sym (e ∙ ap (write 0 (N .trie) 0) q)) (own-trie (N .trie) (N .pruned) (N .sized) (N .fit))
         go (suc c) h q e = absurd (omega arith)
 
-    own-root : (es : List Entry) → Opens w bitsOf used 0 0 es → Fitting w bitsOf used (zeroBits w) 0 false es → OwnList es
-    own-root es o s = own-node es (read-node w bitsOf used (λ r. bits-length w (keyOf r)) w [] 0 false es (zero-add w) (omega arith) o s)
+    own-root : (es : List Entry) → Opens w (bitsOf w keyOf) used 0 0 es → Fitting w (bitsOf w keyOf) used (zeroBits w) 0 false es → OwnList es
+    own-root es o s = own-node es (read-node w (bitsOf w keyOf) used (λ r. bits-length w (keyOf r)) w [] 0 false es (zero-add w) (omega arith) o s)
 
     -- a list that fitting-node is the leaf list of its live itemRecords
-    pub fitting-own : (es : List Entry) → Fitting w bitsOf used (zeroBits w) 0 false es → OwnList es
+    pub fitting-own : (es : List Entry) → Fitting w (bitsOf w keyOf) used (zeroBits w) 0 false es → OwnList es
     fitting-own [] s = absurd s
     fitting-own (entry zero none ∷ rest) s = subst (λ (x : List Entry). OwnList (entry 0 none ∷ x)) (sym (s .0)) own-sole
     fitting-own (entry (suc d) none ∷ rest) s = own-root (entry (suc d) none ∷ rest) (omega arith) s
     fitting-own (entry d (some r) ∷ rest) s = own-root (entry d (some r) ∷ rest) (omega arith) s
 
   -- a leaf list fitting-node
-  pub own-fitting : (s : Herd) → KeysOf keyOf s → AllInUse used (recordsOf s) → Narrow w s → Sorted s → Fitting w bitsOf used (zeroBits w) 0 false (trieList w s)
-  own-fitting s k a q o = go (trieOf w (items w s)) (trieOf-pruned w (items w s)) (trieOf-sized w (items w s) (items-lengths w s)) (trieOf-keys bitsOf w [] (items w s) (items-keys w keyOf s k)) b
+  pub own-fitting : (s : Herd) → KeysOf keyOf s → AllInUse used (recordsOf s) → Narrow w s → Sorted s → Fitting w (bitsOf w keyOf) used (zeroBits w) 0 false (trieList w s)
+  own-fitting s k a q o = go (trieOf w (items w s)) (trieOf-pruned w (items w s)) (trieOf-sized w (items w s) (items-lengths w s)) (trieOf-keys (bitsOf w keyOf) w [] (items w s) (items-keys w keyOf s k)) b
     where
       b : AllInUse used (optionRecords (trieOf w (items w s)) [])
       b = rw (trieOf-records w (items w s) [] (items-lengths w s) (items-ordered w s q o), records-herd w s) a
 
-      go : (t : Option Trie) → Given Pruned t → Given (Sized w) t → Given (KeysIn bitsOf []) t → AllInUse used (optionRecords t []) → Fitting w bitsOf used (zeroBits w) 0 false (writeAll t)
+      go : (t : Option Trie) → Given Pruned t → Given (Sized w) t → Given (KeysIn (bitsOf w keyOf) []) t → AllInUse used (optionRecords t []) → Fitting w (bitsOf w keyOf) used (zeroBits w) 0 false (writeAll t)
       go none g f r a = (refl, refl, λ i. absurd (i refl))
       go (some t) g f r a =
-          fitting-node w bitsOf used t [] w 0 0 false [] g f (records-fit t [] [] r a .0) (zero-add w) (omega arith) (omega arith)
-          (leafMeets w bitsOf used t 0 0 0 false (omega arith) (λ i. absurd (true≢false (sym i)))) refl
+          fitting-node w (bitsOf w keyOf) used t [] w 0 0 false [] g f (records-fit t [] [] r a .0) (zero-add w) (omega arith) (omega arith)
+          (leafMeets w (bitsOf w keyOf) used t 0 0 0 false (omega arith) (λ i. absurd (true≢false (sym i)))) refl

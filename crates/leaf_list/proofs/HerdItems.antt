@@ -1,17 +1,17 @@
 -- The list of keys of a herd, and the trie's entries of it. Assumes nothing.
-use mathlib.Core.Path.{_∙_, _≡_, ap, refl, sym}
+use mathlib.Core.Path.{ap, _≡_, refl, _∙_, sym}
 use mathlib.Core.Bool.{Bool, cond, true, false}
 use mathlib.Core.Option.{some, none, Option}
-use mathlib.Core.List.{_∷_, [], List}
-use Prim.Native.Nat.{_-_, _<_, _^_, ℕ}
+use mathlib.Core.List.{[], _∷_, List}
+use Prim.Native.Nat.{ℕ, _<_, _^_}
 use native.Mathlib.Omega.{arith}
 use native.Mathlib.Nat.{mod-eq-of-lt}
 use lib.Dec.{ltb, eqb}
 use borrow.Author.Tests.{eqb-true, lt-ltb}
 use Rattle.leaf_list.specs.Keys.{bits}
 use Rattle.leaf_list.specs.Entries.{liveRecords}
-use Rattle.leaf_list.specs.Herd.{Herd, Narrow, Absent, KeysOf, add, remove, lookup, Above, Sorted, recordsOf}
-use Rattle.leaf_list.specs.LeafList.{item, items}
+use Rattle.leaf_list.specs.Herd.{Herd, Narrow, Absent, KeysOf, add, lookup, remove, Above, Sorted, recordsOf}
+use Rattle.leaf_list.specs.LeafList.{items, item}
 use Rattle.leaf_list.specs.Trie.{trieList}
 use Rattle.leaf_list.specs.Search.{find}
 use Rattle.leaf_list.specs.Insertion.{insertion}

@@ -1,10 +1,10 @@
 -- The ordered map's own laws: adding and removing a key. Assumes nothing.
-use mathlib.Core.Path.{_∙_, _≡_, refl, sym, ap}
+use mathlib.Core.Path.{refl, _≡_, sym, _∙_, ap}
 use mathlib.Core.Logic.{_≢_}
 use mathlib.Core.Bool.{Bool, cond, true, false}
 use mathlib.Core.Option.{some, none}
-use mathlib.Core.List.{_∷_, []}
-use Prim.Native.Nat.{_-_, _<_, _^_, _≤_, ℕ, suc}
+use mathlib.Core.List.{[], _∷_}
+use Prim.Native.Nat.{ℕ, _≤_, _<_, suc, _^_}
 use native.Mathlib.Omega.{arith}
 use lib.Dec.{ltb, eqb}
 use lib.ListN.{length}

@@ -1,9 +1,9 @@
 -- The found entry by its index, and insertion there. Assumes nothing.
 use mathlib.Core.Path.{_≡_, refl}
 use mathlib.Core.Bool.{cond, Bool, true, false}
-use mathlib.Core.Option.{some, Option, none}
-use mathlib.Core.List.{_++_, _∷_, List, [], reverseAux}
-use Prim.Native.Nat.{_-_, _<_, ℕ, zero, suc}
+use mathlib.Core.Option.{Option, none, some}
+use mathlib.Core.List.{List, [], _∷_, reverseAux, _++_}
+use Prim.Native.Nat.{ℕ, zero, suc, _<_}
 use native.Mathlib.Omega.{arith}
 use lib.Dec.{ltb, eqb}
 use lib.ListN.{take, drop, length, length-drop}

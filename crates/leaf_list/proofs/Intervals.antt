@@ -1,9 +1,8 @@
 -- The key in an interval of discriminators, by the two sides. Assumes nothing.
-use mathlib.Core.Path.{_∙_, _≡_, refl}
-use mathlib.Core.Logic.{_≢_}
+use mathlib.Core.Path.{_≡_, refl, _∙_}
 use mathlib.Core.Bool.{false, true, and-true, not}
-use mathlib.Core.List.{_++_, _∷_, List, [], cons≢nil, map}
-use Prim.Native.Nat.{_-_, ℕ, suc}
+use mathlib.Core.List.{List, _∷_, [], cons≢nil, map, _++_}
+use Prim.Native.Nat.{ℕ, suc, _+_}
 use native.Mathlib.Omega.{arith}
 use lib.ListN.{length}
 use Rattle.leaf_list.specs.Keys.{Key, zeroBits, below, setBit}
@@ -59,6 +58,11 @@ from-start n (item (true ∷ k) r ∷ s) h e = rw (below-zeroBits k n)
 abbrev pub stemDepth : ℕ → Key → ℕ
 stemDepth l [] = suc l
 stemDepth l (x ∷ p) = stemDepth (suc l) p
+
+-- The depth of a stem by its length.
+pub stemDepth-length : (p : Key) (l : ℕ) → stemDepth l p ≡ suc (length p + l)
+stemDepth-length [] l = omega arith
+stemDepth-length (x ∷ p) l = stemDepth-length p (suc l) ∙ omega arith
 
 -- The entries at the given stems, from the discriminator lo on; the depth c closes.
 abbrev pub entriesAt : ℕ → List Item → Key → List Key → ℕ → List Entry → List Entry

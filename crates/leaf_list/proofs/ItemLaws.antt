@@ -1,21 +1,21 @@
 -- Search, insertion and deletion in the written trie of a list of keys. Assumes nothing.
-use mathlib.Core.Path.{_∙_, _≡_, refl, ap, sym}
+use mathlib.Core.Path.{_≡_, refl, _∙_, ap, sym}
 use mathlib.Core.Bool.{false, true}
 use mathlib.Core.Option.{Option, none, some}
-use mathlib.Core.List.{_∷_, [], List, reverseAux}
-use Prim.Native.Nat.{_-_, ℕ, suc}
+use mathlib.Core.List.{[], List, _∷_, reverseAux}
+use Prim.Native.Nat.{ℕ, suc}
 use native.Mathlib.Omega.{arith}
 use lib.ListN.{length}
 use Rattle.leaf_list.specs.Keys.{Key, sameKey}
 use Rattle.leaf_list.specs.Entries.{Entry}
-use Rattle.leaf_list.specs.LeafList.{item, Item}
-use Rattle.leaf_list.specs.Trie.{Trie, write, writeAll, leaf, zero-only, one-only, fork, trieOf}
+use Rattle.leaf_list.specs.LeafList.{Item, item}
+use Rattle.leaf_list.specs.Trie.{Trie, writeAll, leaf, zero-only, one-only, fork, trieOf, write}
 use Rattle.leaf_list.specs.Search.{pointerAt, compared, find}
 use Rattle.leaf_list.specs.Insertion.{insertion}
-use Rattle.leaf_list.specs.Deletion.{deletion, deleteAt}
+use Rattle.leaf_list.specs.Deletion.{deleteAt, deletion}
 use Rattle.leaf_list.proofs.Bits.{sameKey-refl}
 use Rattle.leaf_list.proofs.Paths.{sameKey-path, differ-sameKey}
-use Rattle.leaf_list.proofs.Tries.{Given, NotHeld, Held, Pruned, KeysIn, notHeld-reaches, Branching, held-reaches, key-of-last, lastBits}
+use Rattle.leaf_list.proofs.Tries.{Given, NotHeld, Pruned, KeysIn, notHeld-reaches, Held, Branching, held-reaches, key-of-last, lastBits}
 use Rattle.leaf_list.proofs.Places.{stops-shallow, search-node, passed, remaining}
 use Rattle.leaf_list.proofs.TrieInsertion.{insert-node, depthRule, insertTrie}
 use Rattle.leaf_list.proofs.TrieDeletion.{deleteTrie, delete-node, writeLeft}

@@ -1,9 +1,9 @@
 -- The keys of a pruned trie, in order: the trie is theirs. Assumes nothing.
-use mathlib.Core.Path.{_∙_, _≡_, refl, ap, ap₂}
+use mathlib.Core.Path.{_≡_, refl, _∙_, ap, ap₂}
 use mathlib.Core.Bool.{false, true}
 use mathlib.Core.Option.{some}
-use mathlib.Core.List.{_∷_, List, []}
-use Prim.Native.Nat.{_-_, zero, ℕ, suc}
+use mathlib.Core.List.{List, _∷_, []}
+use Prim.Native.Nat.{ℕ, zero, suc}
 use native.Mathlib.Omega.{arith}
 use lib.ListN.{length}
 use Rattle.leaf_list.specs.Keys.{Key, below}

@@ -1,14 +1,13 @@
 -- The live entries of a written trie, left to right, have the records in key order. Assumes nothing.
-use mathlib.Core.Path.{_∙_, _≡_, refl, ap, sym}
-use mathlib.Core.Logic.{_≢_}
+use mathlib.Core.Path.{_≡_, refl, _∙_, ap, sym}
 use mathlib.Core.Bool.{true, false, true≢false}
 use mathlib.Core.Option.{Option, none, some}
-use mathlib.Core.List.{_∷_, List, []}
-use Prim.Native.Nat.{_-_, ℕ, zero, suc}
+use mathlib.Core.List.{List, _∷_, []}
+use Prim.Native.Nat.{ℕ, suc, zero}
 use native.Mathlib.Omega.{arith}
 use Rattle.leaf_list.specs.Keys.{Key, below}
-use Rattle.leaf_list.specs.Entries.{liveRecords, Entry}
-use Rattle.leaf_list.specs.LeafList.{item, Item}
+use Rattle.leaf_list.specs.Entries.{Entry, liveRecords}
+use Rattle.leaf_list.specs.LeafList.{Item, item}
 use Rattle.leaf_list.specs.Trie.{Trie, leaf, zero-only, one-only, fork, write, join, oneSide, zeroSide, trieOf, writeAll}
 use Rattle.leaf_list.proofs.TrieOf.{Lengths, trieOf-suc, lengths-zero, lengths-one}
 

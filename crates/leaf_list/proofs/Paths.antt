@@ -1,8 +1,8 @@
 -- Keys that begin with a common path, which is given last bit first. Assumes nothing.
-use mathlib.Core.Path.{_∙_, _≡_, refl, ap, sym}
+use mathlib.Core.Path.{_≡_, refl, _∙_, ap, sym}
 use mathlib.Core.Bool.{false, true, Bool}
-use mathlib.Core.List.{_++_, _∷_, [], reverseAux, append-assoc}
-use Prim.Native.Nat.{_+_, _-_, _<_, _≤_, ℕ, suc, zero}
+use mathlib.Core.List.{[], _∷_, reverseAux, _++_, append-assoc}
+use Prim.Native.Nat.{ℕ, _<_, suc, _≤_, _+_, zero}
 use native.Mathlib.Omega.{arith}
 use native.Mathlib.Nat.{zero-add, add-zero}
 use lib.ListN.{length, length-reverseAux, take, drop, take-append-drop}

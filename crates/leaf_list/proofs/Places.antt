@@ -1,9 +1,9 @@
 -- The place that a search finds in the entries of a trie. Assumes nothing.
-use mathlib.Core.Path.{_∙_, _≡_, refl}
+use mathlib.Core.Path.{_≡_, refl, _∙_}
 use mathlib.Core.Bool.{false, true}
 use mathlib.Core.Option.{none, some, Option}
-use mathlib.Core.List.{_∷_, List, [], reverseAux}
-use Prim.Native.Nat.{_-_, _<_, _≤_, ℕ, suc}
+use mathlib.Core.List.{List, _∷_, [], reverseAux}
+use Prim.Native.Nat.{ℕ, suc, _≤_, _<_}
 use native.Mathlib.Omega.{arith}
 use borrow.Author.Tests.{lt-ltb, le-ltb, ne-eqb, eq-eqb}
 use Rattle.leaf_list.specs.Keys.{Key}

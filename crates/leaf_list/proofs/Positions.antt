@@ -1,7 +1,7 @@
 -- The position list rises. Assumes nothing.
 use mathlib.Core.Bool.{false, true}
-use mathlib.Core.List.{_∷_, List, []}
-use Prim.Native.Nat.{_-_, _<_, _≤_, ℕ, suc}
+use mathlib.Core.List.{List, [], _∷_}
+use Prim.Native.Nat.{ℕ, _<_, _≤_, suc}
 use native.Mathlib.Omega.{arith}
 use Rattle.leaf_list.specs.Keys.{Key}
 use Rattle.leaf_list.specs.Search.{positions}

@@ -1,14 +1,14 @@
 -- One record of a register set or cleared; and when its keys differ. Assumes nothing.
-use mathlib.Core.Path.{_∙_, _≡_, refl, ap, sym, subst}
-use mathlib.Core.Logic.{_↔_, _≢_}
+use mathlib.Core.Path.{_≡_, refl, _∙_, ap, sym, subst}
+use mathlib.Core.Logic.{_≢_, _↔_}
 use mathlib.Core.Bool.{true, Bool, cond, false}
 use mathlib.Core.Option.{some}
-use mathlib.Core.List.{_∷_, List, []}
-use Prim.Native.Nat.{_+_, _-_, _<_, ℕ, suc, zero}
+use mathlib.Core.List.{List, [], _∷_}
+use Prim.Native.Nat.{ℕ, _+_, suc, _<_, zero}
 use native.Mathlib.Omega.{arith}
 use native.Mathlib.Nat.{add-zero, zero-add}
 use lib.Dec.{eqb}
-use lib.ListN.{set, length}
+use lib.ListN.{length, set}
 use lib.Seq.{getD-set-same, getD-set-other}
 use Rattle.leaf_list.specs.Herd.{Absent, add, Sorted, lookup, remove}
 use Rattle.leaf_list.specs.Register.{inUse, herdFrom, keyAt, herdOf}

@@ -1,17 +1,17 @@
 -- The herd of a register: the records in use, with their keys, in key order. Assumes nothing.
-use mathlib.Core.Path.{_∙_, _≡_, refl, ap, sym, subst}
-use mathlib.Core.Logic.{_↔_, _≢_, _⊎_, inl, inr}
+use mathlib.Core.Path.{_≡_, refl, _∙_, ap, sym, subst}
+use mathlib.Core.Logic.{_⊎_, inl, inr, _↔_, _≢_}
 use mathlib.Core.Bool.{Bool, true, cond, false, true≢false}
 use mathlib.Core.Option.{some}
-use mathlib.Core.List.{_∷_, [], List}
-use Prim.Native.Nat.{_+_, _-_, _<_, _≤_, ℕ, suc, zero}
+use mathlib.Core.List.{[], _∷_, List}
+use Prim.Native.Nat.{ℕ, _≤_, _<_, suc, _+_, zero}
 use native.Mathlib.Omega.{arith}
 use native.Mathlib.Nat.{add-zero, zero-add}
 use lib.Dec.{ltb, eqb}
 use lib.ListN.{length}
 use borrow.Author.Tests.{ltb-true, ltb-false, eq-eqb, ne-eqb, eqb-true}
-use Rattle.leaf_list.specs.Herd.{Herd, Sorted, KeysOf, recordsOf, add, Absent, lookup}
-use Rattle.leaf_list.specs.Register.{inUse, herdFrom, countInUse, herdOf, keyAt}
+use Rattle.leaf_list.specs.Herd.{Herd, KeysOf, recordsOf, add, Absent, Sorted, lookup}
+use Rattle.leaf_list.specs.Register.{herdFrom, countInUse, inUse, keyAt, herdOf}
 use Rattle.leaf_list.proofs.HerdLaws.{length-add, keysOf-add, above-absent}
 use Rattle.leaf_list.proofs.FittingHerds.{AllInUse}
 

@@ -1,9 +1,8 @@
 -- Bounding nodes by their stems: a string that ends in 1 without that 1. Assumes nothing.
-use mathlib.Core.Path.{_∙_, _≡_, ap, refl, sym}
-use mathlib.Core.Logic.{_≢_}
-use mathlib.Core.Bool.{_&&_, _||_, false, true, Bool, cond, true≢false, or-true}
-use mathlib.Core.List.{_++_, _∷_, List, [], map}
-use Prim.Native.Nat.{_-_, _<_, ℕ, zero, suc}
+use mathlib.Core.Path.{_≡_, refl, ap, _∙_, sym}
+use mathlib.Core.Bool.{false, true, Bool, _||_, _&&_, cond, true≢false, or-true}
+use mathlib.Core.List.{List, [], map, _∷_, _++_}
+use Prim.Native.Nat.{ℕ, zero, suc, _<_}
 use lib.Dec.{leb}
 use lib.ListN.{length}
 use borrow.Author.Tests.{le-leb}
@@ -60,12 +59,12 @@ filter-append f (v ∷ vs) ws = rw (filter-append f vs ws) (go (f v))
     go true = refl
     go false = refl
 
--- Filtering strings with a first bit in common.
-pub filter-cons : (f g : Key → Bool) (b : Bool) (vs : List Key) → ((v : Key) → f (b ∷ v) ≡ g v) → filter f (map (λ v. b ∷ v) vs) ≡ map (λ v. b ∷ v) (filter g vs)
-filter-cons f g b [] h = refl
-filter-cons f g b (v ∷ vs) h = rw (h v, filter-cons f g b vs h) (go (g v))
+-- Filtering strings that are all made by h, with the test that g does before.
+pub filter-map : (f g : Key → Bool) (h : Key → Key) (vs : List Key) → ((v : Key) → f (h v) ≡ g v) → filter f (map h vs) ≡ map h (filter g vs)
+filter-map f g h [] e = refl
+filter-map f g h (v ∷ vs) e = rw (e v, filter-map f g h vs e) (go (g v))
   where
-    go : (t : Bool) → cond t ((b ∷ v) ∷ map (λ v. b ∷ v) (filter g vs)) (map (λ v. b ∷ v) (filter g vs)) ≡ map (λ v. b ∷ v) (cond t (v ∷ filter g vs) (filter g vs))
+    go : (t : Bool) → cond t (h v ∷ map h (filter g vs)) (map h (filter g vs)) ≡ map h (cond t (v ∷ filter g vs) (filter g vs))
     go true = refl
     go false = refl
 
@@ -79,7 +78,7 @@ pub boundingStems-suc : (n : ℕ) (s : List Item)
     → boundingStems (suc n) s ≡ map (λ v. false ∷ v) (boundingStems n (zeroSide s)) ++ cond (boundingStem s []) ([] ∷ map (λ v. true ∷ v) (boundingStems n (oneSide s))) (map (λ v. true ∷ v) (boundingStems n (oneSide s)))
 boundingStems-suc n s =
     filter-append (boundingStem s) (map (λ v. false ∷ v) (stems n)) ([] ∷ map (λ v. true ∷ v) (stems n))
-    ∙ rw (filter-cons (boundingStem s) (boundingStem (zeroSide s)) false (stems n) (boundingStem-zero s), filter-cons (boundingStem s) (boundingStem (oneSide s)) true (stems n) (boundingStem-one s))
+    ∙ rw (filter-map (boundingStem s) (boundingStem (zeroSide s)) (λ v. false ∷ v) (stems n) (boundingStem-zero s), filter-map (boundingStem s) (boundingStem (oneSide s)) (λ v. true ∷ v) (stems n) (boundingStem-one s))
 
 -- A key does not begin with a string and with its sibling.
 pub begins-sibling : (p k : Key) → begins (p ++ (true ∷ [])) k ≡ true → begins (p ++ (false ∷ [])) k ≡ false

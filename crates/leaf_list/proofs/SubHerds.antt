@@ -1,9 +1,9 @@
 -- As many of a herd's keys, in order, are the herd. Assumes nothing.
-use mathlib.Core.Path.{_∙_, _≡_, refl, ap, ap₂, subst}
-use mathlib.Core.Logic.{_↔_, inl, inr}
+use mathlib.Core.Path.{_≡_, refl, ap₂, ap, subst, _∙_}
+use mathlib.Core.Logic.{inl, inr, _↔_}
 use mathlib.Core.Bool.{Bool, true, false}
-use mathlib.Core.List.{_∷_, [], List}
-use Prim.Native.Nat.{_-_, _<_, _^_, _≤_, ℕ, suc}
+use mathlib.Core.List.{[], _∷_, List}
+use Prim.Native.Nat.{ℕ, _<_, _≤_, suc, _^_}
 use native.Mathlib.Omega.{arith}
 use lib.ListN.{length}
 use Rattle.leaf_list.specs.Keys.{zeroBits}
@@ -64,28 +64,30 @@ pub length-recordsOf : (s : Herd) → length (recordsOf s) ≡ length s
 length-recordsOf [] = refl
 length-recordsOf (x ∷ s) = ap suc (length-recordsOf s)
 
+-- Where no record in use has a key of more than w bits, neither has their herd.
+pub narrow-inUse : (w : ℕ) (keyOf : ℕ → ℕ) (used : ℕ → Bool) → ((r : ℕ) → used r ≡ true → keyOf r < 2 ^ w)
+    → (s : Herd) → KeysOf keyOf s → AllInUse used (recordsOf s) → Narrow w s
+narrow-inUse w keyOf used narrow [] k a = tt
+narrow-inUse w keyOf used narrow (x ∷ s) k a = (subst (λ (y : ℕ). y < 2 ^ w) (k .0) (narrow x.1 (a .0)), narrow-inUse w keyOf used narrow s (k .1) (a .1))
+
 -- The list against the herd of a register.
 module _ (w : ℕ) (keyOf : ℕ → ℕ) (used : ℕ → Bool) (s : Herd) (b : IsHerdOf keyOf used s) (narrow : (r : ℕ) → used r ≡ true → keyOf r < 2 ^ w) where
   subHerd-with : (rs : List ℕ) → AllInUse used rs → SubHerd (herdWith keyOf rs) s
   subHerd-with [] a = tt
   subHerd-with (r ∷ rs) a = (b .all r (a .0), subHerd-with rs (a .1))
 
-  narrow-inUse : (s : Herd) → KeysOf keyOf s → AllInUse used (recordsOf s) → Narrow w s
-  narrow-inUse [] k a = tt
-  narrow-inUse (x ∷ s) k a = (subst (λ (y : ℕ). y < 2 ^ w) (k .0) (narrow x.1 (a .0)), narrow-inUse s (k .1) (a .1))
-
   -- the linear check
   pub fitting-leafList : (es : List Entry)
-      → (Fitting w (bitsOf w keyOf used) used (zeroBits w) 0 false es × (length (liveRecords es) ≡ length s)) ↔ ((es ≡ trieList w s) × Sorted s)
+      → (Fitting w (bitsOf w keyOf) used (zeroBits w) 0 false es × (length (liveRecords es) ≡ length s)) ↔ ((es ≡ trieList w s) × Sorted s)
   fitting-leafList es = (to, fro)
     where
-      to : Fitting w (bitsOf w keyOf used) used (zeroBits w) 0 false es × (length (liveRecords es) ≡ length s) → (es ≡ trieList w s) × Sorted s
+      to : Fitting w (bitsOf w keyOf) used (zeroBits w) 0 false es × (length (liveRecords es) ≡ length s) → (es ≡ trieList w s) × Sorted s
       to h =
           let o : OwnList w keyOf used narrow es = fitting-own w keyOf used narrow es (h .0) in
           let e : herdWith keyOf (liveRecords es) ≡ s = subHerd-same s (herdWith keyOf (liveRecords es)) (o .1) (b .ordered) (subHerd-with (liveRecords es) (o .2)) (length-herdWith keyOf (liveRecords es) ∙ h .1) in
           (o .0 ∙ ap (trieList w) e, subst Sorted e (o .1))
 
-      fro : (es ≡ trieList w s) × Sorted s → Fitting w (bitsOf w keyOf used) used (zeroBits w) 0 false es × (length (liveRecords es) ≡ length s)
+      fro : (es ≡ trieList w s) × Sorted s → Fitting w (bitsOf w keyOf) used (zeroBits w) 0 false es × (length (liveRecords es) ≡ length s)
       fro h =
-          let q : Narrow w s = narrow-inUse s (b .keysOf) (b .uses) in
+          let q : Narrow w s = narrow-inUse w keyOf used narrow s (b .keysOf) (b .uses) in
           rw (h .0) (own-fitting w keyOf used s (b .keysOf) (b .uses) q (h .1), ap length (liveRecords-trieList w s q (h .1)) ∙ length-recordsOf s)

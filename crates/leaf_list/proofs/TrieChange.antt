@@ -1,10 +1,9 @@
 -- The trie of a list with one key more. Assumes nothing.
-use mathlib.Core.Path.{_∙_, _≡_, refl, ap, sym, ap₂}
-use mathlib.Core.Logic.{_≢_}
+use mathlib.Core.Path.{_≡_, refl, ap, _∙_, sym, ap₂}
 use mathlib.Core.Bool.{false, true}
 use mathlib.Core.Option.{Option, none, some}
-use mathlib.Core.List.{_∷_, List, [], cons≢nil}
-use Prim.Native.Nat.{_-_, ℕ, zero, suc}
+use mathlib.Core.List.{List, _∷_, [], cons≢nil}
+use Prim.Native.Nat.{ℕ, zero, suc}
 use native.Mathlib.Omega.{arith}
 use lib.ListN.{length}
 use Rattle.leaf_list.specs.Keys.{Key}
@@ -12,7 +11,7 @@ use Rattle.leaf_list.specs.LeafList.{Item, item}
 use Rattle.leaf_list.specs.Trie.{Trie, leaf, zero-only, one-only, fork, underZero, underOne, join, zeroSide, oneSide, trieOf}
 use Rattle.leaf_list.proofs.Bits.{sameKey-refl}
 use Rattle.leaf_list.proofs.Paths.{Differ}
-use Rattle.leaf_list.proofs.Tries.{Branching, NotHeld, Held, Given, underZero-branching, underOne-branching, Pruned}
+use Rattle.leaf_list.proofs.Tries.{Branching, NotHeld, Given, underZero-branching, underOne-branching, Held, Pruned}
 use Rattle.leaf_list.proofs.TrieInsertion.{insertTrie, twoLeaves}
 use Rattle.leaf_list.proofs.TrieDeletion.{deleteTrie}
 use Rattle.leaf_list.proofs.TrieOf.{Lengths, NoKey, noKey-empty, trieOf-suc, lengths-zero, noKey-zero, trieOf-notHeld, lengths-one, noKey-one}

@@ -1,9 +1,9 @@
 -- Deletion at the found entry writes the trie without the key. Assumes nothing.
-use mathlib.Core.Path.{_∙_, _≡_, refl}
+use mathlib.Core.Path.{_≡_, refl, _∙_}
 use mathlib.Core.Bool.{cond, false, true}
 use mathlib.Core.Option.{Option, none, some}
-use mathlib.Core.List.{_∷_, [], List, reverseAux}
-use Prim.Native.Nat.{_-_, _≤_, ℕ, suc}
+use mathlib.Core.List.{[], _∷_, List, reverseAux}
+use Prim.Native.Nat.{ℕ, _≤_, suc}
 use native.Mathlib.Omega.{arith}
 use borrow.Author.Tests.{le-ltb, lt-ltb}
 use Rattle.leaf_list.specs.Keys.{Key, sameKey}

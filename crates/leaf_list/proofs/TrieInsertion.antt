@@ -1,16 +1,16 @@
 -- Insertion at the found entry writes the trie with the key. Assumes nothing.
-use mathlib.Core.Path.{_∙_, _≡_, refl, ap}
-use mathlib.Core.Bool.{cond, Bool, true, false, and-false}
+use mathlib.Core.Path.{_≡_, refl, _∙_, ap}
+use mathlib.Core.Bool.{Bool, cond, true, false, and-false}
 use mathlib.Core.Option.{none, some}
-use mathlib.Core.List.{_∷_, [], List, reverseAux}
-use Prim.Native.Nat.{_-_, _≤_, max, ℕ, suc}
+use mathlib.Core.List.{[], _∷_, List, reverseAux}
+use Prim.Native.Nat.{ℕ, max, _≤_, suc}
 use native.Mathlib.Omega.{arith}
 use lib.Dec.{ltb}
 use lib.ListN.{length}
 use borrow.Author.Tests.{ltb-true, ltb-false, le-ltb, lt-ltb}
 use Rattle.leaf_list.specs.Keys.{Key, firstDifference, below}
 use Rattle.leaf_list.specs.Entries.{Entry, entry}
-use Rattle.leaf_list.specs.Trie.{leaf, Trie, zero-only, fork, one-only, write}
+use Rattle.leaf_list.specs.Trie.{Trie, leaf, zero-only, fork, one-only, write}
 use Rattle.leaf_list.specs.Search.{positions}
 use Rattle.leaf_list.specs.Insertion.{leafDepth, dummies, bothLeaves, trailing, insertInto}
 use Rattle.leaf_list.proofs.Paths.{Differ, firstDifference-above, firstDifference-path, below-path}

@@ -1,10 +1,9 @@
 -- The trie of a list of keys. Assumes nothing.
 use mathlib.Core.Path.{_≡_, refl, ap}
-use mathlib.Core.Logic.{_≢_}
 use mathlib.Core.Bool.{false, true, true≢false}
 use mathlib.Core.Option.{none, Option, some}
-use mathlib.Core.List.{_∷_, List, [], reverseAux}
-use Prim.Native.Nat.{_-_, ℕ, zero, suc}
+use mathlib.Core.List.{List, [], _∷_, reverseAux}
+use Prim.Native.Nat.{ℕ, zero, suc}
 use native.Mathlib.Omega.{arith}
 use lib.ListN.{length}
 use Rattle.leaf_list.specs.Keys.{Key, sameKey}

@@ -1,21 +1,21 @@
 -- The entries at the bounding nodes are those of the trie. Assumes nothing.
-use mathlib.Core.Path.{_∙_, _≡_, refl, ap}
+use mathlib.Core.Path.{_≡_, refl, _∙_, ap}
 use mathlib.Core.Bool.{true}
 use mathlib.Core.Option.{Option, none, some}
-use mathlib.Core.List.{_∷_, List, [], append-nil, map}
-use Prim.Native.Nat.{_-_, _<_, ℕ, zero, suc}
+use mathlib.Core.List.{List, _∷_, [], append-nil, map}
+use Prim.Native.Nat.{ℕ, suc, _<_, zero}
 use native.Mathlib.Omega.{arith}
 use lib.ListN.{length}
 use Rattle.leaf_list.specs.Keys.{Key, zeroBits}
 use Rattle.leaf_list.specs.Entries.{Entry, entry}
 use Rattle.leaf_list.specs.LeafList.{Item, item}
-use Rattle.leaf_list.specs.Trie.{write, Trie, trieOf, join, leaf, zero-only, one-only, fork, zeroSide, oneSide, writeAll}
+use Rattle.leaf_list.specs.Trie.{Trie, write, trieOf, join, leaf, zero-only, one-only, fork, zeroSide, oneSide, writeAll}
 use Rattle.leaf_list.proofs.Bits.{zeroBits-length, below-zeroBits}
 use Rattle.leaf_list.proofs.Tries.{Branching, Given, NotHeld}
 use Rattle.leaf_list.proofs.TrieDeletion.{NonEmpty}
 use Rattle.leaf_list.proofs.TrieOf.{Lengths, Distinct, trieOf-notHeld, trieOf-suc, trieOf-nil, lengths-one, distinct-one, lengths-zero, distinct-zero}
 use Rattle.leaf_list.proofs.TrieChange.{insertOption, trieOf-insert, here, insertTrie-branching}
-use Rattle.leaf_list.proofs.Stems.{boundingStem, boundingStems, boundingStems-suc, count-one, boundingStems-nil, count-zero, boundingStems-single, boundingStem-two, boundingStem-both}
+use Rattle.leaf_list.proofs.Stems.{boundingStems, boundingStems-suc, count-one, boundingStems-nil, boundingStem, count-zero, boundingStems-single, boundingStem-two, boundingStem-both}
 use Rattle.leaf_list.proofs.Intervals.{entriesAt, entriesAt-zero, entriesAt-middle, entriesAt-one, from-start}
 
 -- The entries of what may be no trie.

@@ -1,1 +1,10 @@
+pub mod ListLaws
+pub mod ClosedRows
+pub mod Splitting
+pub mod CuttingLaws
+pub mod CuttingMaps
+pub mod WalkLaws
+pub mod WalkPlaces
+pub mod TreeLaws
+pub mod FindingLaws
 pub mod SmallPages

@@ -1,0 +1,5 @@
+pub mod ListLaws
+pub mod NumberLaws
+pub mod PageBytes
+pub mod PageRows
+pub mod PageReads
