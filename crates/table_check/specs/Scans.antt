@@ -3,11 +3,15 @@ use mathlib.Core.Path.{_≡_}
 use mathlib.Core.Bool.{Bool, true}
 use mathlib.Core.Logic.{_↔_}
 use mathlib.Core.List.{List}
-use Prim.Native.Nat.{ℕ, _<_}
+use Prim.Native.Nat.{ℕ, _≤_, _<_}
 use lib.ListN.{length, getD}
 use Rattle.leaf_list.specs.Register.{countInUse}
 use Rattle.index_table.specs.Soundness.{SoundRecord}
 use Rattle.table_check.specs.declared.register.Tally.{Tally}
+
+-- The bytes from one place up to another are all zero.
+abbrev pub ZeroBetween : ℕ → ℕ → List ℕ → Type 0
+ZeroBetween from to bytes = (k : ℕ) → from ≤ k → k < to → getD bytes k 0 ≡ 0
 
 -- Every record is sound by itself.
 abbrev pub SoundRecords : ℕ → List ℕ → List ℕ → Type 0

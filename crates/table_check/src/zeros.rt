@@ -4,13 +4,12 @@ ghost use mathlib.Core.Bool.{true};
 ghost use mathlib.Core.Logic.{_↔_};
 ghost use Prim.Native.Nat.{_≤_};
 ghost use lib.ListN.{length};
-ghost use lib.Seq.{slice};
-ghost use Rattle.index_table.specs.Bytes.{AllZero};
+ghost use Rattle.table_check.specs.Scans.{ZeroBetween};
 
 // Whether the bytes from `from` up to `to` are all zero.
 pub fn all_zero(bytes: &[u8], from: usize, to: usize) -> bool
     requires { ⌜ (from ≤ to) × (to ≤ length (now bytes)) ⌝ }
-    ensures { λ r. ⌜ (r ≡ true) ↔ AllZero (slice from to (now (bytes .entry))) ⌝ }
+    ensures { λ r. ⌜ (r ≡ true) ↔ ZeroBetween from to (now (bytes .entry)) ⌝ }
 {
     let mut any = 0u8;
     let mut i = from;
