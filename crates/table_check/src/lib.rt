@@ -1,3 +1,4 @@
 // The check of the tables.
+pub mod entries;
 pub mod register;
 pub mod zeros;
