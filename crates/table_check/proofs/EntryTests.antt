@@ -43,17 +43,17 @@ isNil-record p = go (eqb p 65535)
 -- ---- an answer
 
 module _ {More : Type 0} {w : ℕ} {keys used : List ℕ} {held : ℕ} {s : Scan} {es : List Entry} where
-  pub scanned-no : (scan : Scan) → (More → Passing w keys used held (stateOf s) es → ⊥) → Scanned More w keys used held s es (record { ok = false; scan = scan })
-  scanned-no scan h =
+  pub scanned-no : (r : Checked) → r .ok ≡ false → (More → Passing w keys used held (stateOf s) es → ⊥) → Scanned More w keys used held s es r
+  scanned-no r e h =
       record {
-        verdict = ((λ t. absurd (true≢false (sym t))), (λ m. absurd (h (m .0) (m .1))));
-        state = λ t. absurd (true≢false (sym t));
-        carried = λ t. absurd (true≢false (sym t));
+        verdict = ((λ t. absurd (true≢false (sym t ∙ e))), (λ m. absurd (h (m .0) (m .1))));
+        state = λ t. absurd (true≢false (sym t ∙ e));
+        carried = λ t. absurd (true≢false (sym t ∙ e));
       }
 
-  pub scanned-yes : (scan : Scan) → More → Passing w keys used held (stateOf s) es → stateOf scan ≡ run w (keyAt keys) (inUse used) (stateOf s) es → Carried w held scan
-      → Scanned More w keys used held s es (record { ok = true; scan = scan })
-  scanned-yes scan m h e b = record { verdict = ((λ t. (m, h)), (λ t. refl)); state = λ t. e; carried = λ t. b }
+  pub scanned-yes : (r : Checked) → r .ok ≡ true → More → Passing w keys used held (stateOf s) es → stateOf (r .scan) ≡ run w (keyAt keys) (inUse used) (stateOf s) es → Carried w held (r .scan)
+      → Scanned More w keys used held s es r
+  scanned-yes r o m h e b = record { verdict = ((λ t. (m, h)), (λ t. o)); state = λ t. e; carried = λ t. b }
 
 -- ---- one entry
 
@@ -66,16 +66,16 @@ module _ (w : ℕ) (keys used : List ℕ) (held : ℕ) (s : Scan) (d p : ℕ) wh
 
   -- Nothing fits behind the closing entry; an entry that does not fit; one that is live beyond the records held.
   pub entry-closed : s .closed ≡ true → One (record { ok = false; scan = s })
-  entry-closed h = scanned-no s (λ m q. true≢false (sym (q .fits) ∙ ap (λ (b : Bool). not b && Fits) h))
+  entry-closed h = scanned-no _ refl (λ m q. true≢false (sym (q .fits) ∙ ap (λ (b : Bool). not b && Fits) h))
 
   pub entry-refused : s .closed ≡ false → Fits ≡ false → One (record { ok = false; scan = s })
-  entry-refused h g = scanned-no s (λ m q. true≢false (sym (q .fits) ∙ ap (λ (b : Bool). not b && Fits) h ∙ g))
+  entry-refused h g = scanned-no _ refl (λ m q. true≢false (sym (q .fits) ∙ ap (λ (b : Bool). not b && Fits) h ∙ g))
 
   live-one : (b : Bool) → eqb p 65535 ≡ b → run w (keyAt keys) (inUse used) (stateOf s) (entry d (recordOf 65535 p) ∷ []) .live ≡ cond b (s .live) (suc (s .live))
   live-one b h = ap (λ (t : Bool). cond t (s .live) (suc (s .live))) (isNil-record p ∙ h)
 
   pub entry-beyond : (not (eqb p 65535) && leb held (s .live)) ≡ true → One (record { ok = false; scan = s })
-  entry-beyond h = scanned-no s (λ m q. go (eqb p 65535) refl h (q .few))
+  entry-beyond h = scanned-no _ refl (λ m q. go (eqb p 65535) refl h (q .few))
     where
       go : (b : Bool) → eqb p 65535 ≡ b → (not b && leb held (s .live)) ≡ true → run w (keyAt keys) (inUse used) (stateOf s) (entry d (recordOf 65535 p) ∷ []) .live ≤ held → ⊥
       go true e t l = true≢false (sym t)
@@ -102,10 +102,10 @@ module _ (w : ℕ) (keys used : List ℕ) (held : ℕ) (s : Scan) (d p : ℕ) wh
 
     pub entry-last : d ≡ 0 → One (record { ok = true; scan = record { disc = 0; trail = 0; dummy = eqb p 65535; live = live; closed = true } })
     entry-last z =
-        scanned-yes _ tt one-passes (ap (λ (t : ℕ). stateOf (record { disc = 0; trail = t; dummy = eqb p 65535; live = live; closed = true })) (sym z)
+        scanned-yes _ refl tt one-passes (ap (λ (t : ℕ). stateOf (record { disc = 0; trail = t; dummy = eqb p 65535; live = live; closed = true })) (sym z)
         ∙ behind 0 true (rw (eq-eqb d 0 z)) (rw (eq-eqb d 0 z))) (record { disc = pow-pos w; trail = omega arith; live = live-few })
 
     pub entry-next : d ≢ 0 → (disc : ℕ) → disc ≡ setBitAt w d (s .disc) → disc < 2 ^ w → One (record { ok = true; scan = record { disc = disc; trail = d; dummy = eqb p 65535; live = live; closed = false } })
     entry-next n disc e l =
-        scanned-yes _ tt one-passes (behind disc false (rw (ne-eqb d 0 n) e) (rw (ne-eqb d 0 n)))
+        scanned-yes _ refl tt one-passes (behind disc false (rw (ne-eqb d 0 n) e) (rw (ne-eqb d 0 n)))
         (record { disc = l; trail = fits-depth w (keyAt keys) (inUse used) (s .disc) (s .trail) (s .dummy) d (recordOf 65535 p) fits; live = live-few })

@@ -1,2 +1,3 @@
 pub mod Gathered
 pub mod EntryTests
+pub mod RowTurns

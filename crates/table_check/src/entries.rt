@@ -90,7 +90,7 @@ fn live_behind(live: u64, p: u32) -> u64
 }
 
 // One entry behind what is carried.
-fn scan_entry(w: u64, keys: &[u64], used: &[u8], held: u64, s: Scan, d: u64, p: u32) -> Checked
+pub fn scan_entry(w: u64, keys: &[u64], used: &[u8], held: u64, s: Scan, d: u64, p: u32) -> Checked
     requires { ⌜ (w ≤ 64) × (held < 65536) × Carried w held s × NarrowRegister w (now keys) (now used) ⌝ }
     ensures { λ r. ⌜ Scanned (Unit {0}) w (now (keys .entry)) (now (used .entry)) held s (entry d (recordOf 65535 p) ∷ []) r ⌝ }
 {

@@ -1,4 +1,6 @@
 // The check of the tables.
 pub mod entries;
+pub mod leaves;
+pub mod numbers;
 pub mod register;
 pub mod zeros;

@@ -1,19 +1,14 @@
 // The register's records, each by itself.
 ghost use mathlib.Core.Path.{_≡_};
-ghost use Prim.Native.Nat.{_<_, _≤_};
+ghost use Prim.Native.Nat.{_≤_};
 ghost use lib.ListN.{length};
 ghost use Rattle.table_check.specs.Scans.{Tallied};
+use crate::numbers::wide;
 
 // Whether every record is sound, and how many are in use.
 pub struct Tally {
     pub fits: bool,
     pub held: u64,
-}
-
-fn wide(x: u8) -> u64
-    ensures { λ r. ⌜ (r ≡ x) × (r < 256) ⌝ }
-{
-    x as u64
 }
 
 // One pass over the register. What is wrong is gathered and judged at the end: a byte above 1, a key on a free record, a key too wide.

@@ -11,7 +11,7 @@ use Rattle.table_check.proofs.register.tally_records.Reads as reads
 use Rattle.table_check.proofs.register.tally_records.Lts as lts
 use Rattle.leaf_list.proofs.too_wide.Reads as too-wide-reads
 use Rattle.std.proofs.num.wrapping_sub_u64.Reads as wrapping-sub-u64-reads
-use Rattle.table_check.proofs.register.wide.Reads as wide-reads
+use Rattle.table_check.proofs.numbers.wide.Reads as wide-reads
 
 abbrev Inv-loop : tie.InvT-loop
 Inv-loop w keys used keys-or₀ odd₀ held₀ i₀ keys-or odd held i = (i ≤ length used) × Gathered keys used keys-or odd held i
