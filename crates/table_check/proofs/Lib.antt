@@ -1,3 +1,4 @@
 pub mod Gathered
 pub mod EntryTests
 pub mod RowTurns
+pub mod MetPages

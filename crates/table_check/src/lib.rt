@@ -2,5 +2,6 @@
 pub mod entries;
 pub mod leaves;
 pub mod numbers;
+pub mod pages;
 pub mod register;
 pub mod zeros;
