@@ -1,4 +1,6 @@
+pub mod Iff
 pub mod Gathered
 pub mod EntryTests
 pub mod RowTurns
 pub mod MetPages
+pub mod ZeroBytes

@@ -20,14 +20,8 @@ use Rattle.index_table.proofs.PageCounts.{same-self, same-cases}
 use Rattle.table_check.specs.Walks.{stateOf, Carried, Passing, Scanned, rowsOf, leavesBelow, leavesOfRow, Ends, RowSound, EntrySound, LeavesPre, WalkPre, Entered, Walked}
 use Rattle.table_check.specs.declared.entries.Scan.{Scan}
 use Rattle.table_check.specs.declared.entries.Checked.{Checked}
+use Rattle.table_check.proofs.Iff.{iff-no, iff-yes, said-no}
 use Rattle.table_check.proofs.EntryTests.{scanned-no}
-
--- An answer of no, and one of yes.
-pub iff-no : {A : Type 0} → (A → ⊥) → (false ≡ true) ↔ A
-iff-no h = ((λ t. absurd (true≢false (sym t))), (λ a. absurd (h a)))
-
-pub iff-yes : {A : Type 0} → A → (true ≡ true) ↔ A
-iff-yes a = ((λ t. a), (λ b. refl))
 
 -- ---- its size
 
@@ -125,7 +119,7 @@ module _ (h : Index) (index keys used : List ℕ) (n page c : ℕ) (map : List �
       → Walked h index keys used (suc n) (c, page) map map′ s r
   walked-refused long e z r o =
       record {
-        scanned = scanned-no r o (λ a p. let v = page-row long .0 a in true≢false (sym (e .verdict .1 (v .0, v .1)) ∙ z));
+        scanned = scanned-no r o (λ a p. let v = page-row long .0 a in said-no (e .verdict) z (v .0, v .1));
         marks = λ t. absurd (true≢false (sym t ∙ o));
       }
 

@@ -6,7 +6,11 @@ use mathlib.Core.List.{List}
 use Prim.Native.Nat.{ℕ, _≤_, _<_}
 use lib.ListN.{length, getD}
 use Rattle.leaf_list.specs.Register.{countInUse}
-use Rattle.index_table.specs.Soundness.{SoundRecord}
+use Rattle.index_table.specs.Layout.{layoutOf, pageBytes}
+use Rattle.index_table.specs.Pages.{inUse}
+use Rattle.index_table.specs.Soundness.{SoundRecord, Cleared}
+use Rattle.index_table.specs.declared.header.Index.{Index}
+use Rattle.table_check.specs.Walks.{rowsOf}
 use Rattle.table_check.specs.declared.register.Tally.{Tally}
 
 -- The bytes from one place up to another are all zero.
@@ -21,3 +25,8 @@ SoundRecords w keys used = (r : ℕ) → r < length used → SoundRecord w (getD
 pub record Tallied (w : ℕ) (keys used : List ℕ) (t : Tally) : Type 0 where
   pub fits : (t .fits ≡ true) ↔ SoundRecords w keys used
   pub held : t .fits ≡ true → t .held ≡ countInUse used
+
+-- A page is in use exactly if it was met, and "Unused entries and free pages are all zero".
+pub record PageCleared (h : Index) (index : List ℕ) (page mark : ℕ) : Type 0 where
+  pub met : mark ≡ inUse (rowsOf h index page)
+  pub zero : Cleared (layoutOf (h .entries)) (pageBytes (layoutOf (h .entries)) index page)

@@ -1,4 +1,5 @@
 // The check of the tables.
+pub mod cleared;
 pub mod entries;
 pub mod leaves;
 pub mod numbers;

@@ -2,7 +2,7 @@
 use mathlib.Core.Path.{_≡_, refl, sym, ap, _∙_}
 use native.Mathlib.Omega.{arith}
 use borrow.Author.Tests.{not-true, not-false}
-use mathlib.Core.Bool.{true≢false}
+use Rattle.table_check.proofs.Iff.{said-no}
 use Rattle.table_check.proofs.MetPages.{entered-no, entered-yes}
 use borrow.Author.Needs.{needs}
 use Rattle.table_check.proofs.pages.enter.Statement.{statement}
@@ -18,7 +18,7 @@ sized-requires c κs = search needs
 
 -- src/pages.rt:39:9
 returns : tie.Need-returns
-returns c = entered-no _ _ _ _ _ _ (λ s z. true≢false (sym (c .before .sized .ensures .1 s) ∙ not-true _ (c .if1 .taken)))
+returns c = entered-no _ _ _ _ _ _ (λ s z. said-no (c .before .sized .ensures) (not-true _ (c .if1 .taken)) s)
 
 -- src/pages.rt:41:9
 wide16-requires : tie.Need-wide16-requires
