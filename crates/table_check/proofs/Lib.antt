@@ -4,3 +4,4 @@ pub mod EntryTests
 pub mod RowTurns
 pub mod MetPages
 pub mod ZeroBytes
+pub mod Headers

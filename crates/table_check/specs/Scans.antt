@@ -6,9 +6,11 @@ use mathlib.Core.List.{List}
 use Prim.Native.Nat.{ℕ, _≤_, _<_}
 use lib.ListN.{length, getD}
 use Rattle.leaf_list.specs.Register.{countInUse}
-use Rattle.index_table.specs.Layout.{layoutOf, pageBytes}
+use Rattle.index_table.specs.Bytes.{AllZero}
+use Rattle.index_table.specs.Layout.{layoutOf, pageStart, pageBytes}
+use Rattle.index_table.specs.Header.{widthOf, entriesOf, pagesOf, spareOf}
 use Rattle.index_table.specs.Pages.{inUse}
-use Rattle.index_table.specs.Soundness.{SoundRecord, Cleared}
+use Rattle.index_table.specs.Soundness.{Limits, SoundRecord, Cleared}
 use Rattle.index_table.specs.declared.header.Index.{Index}
 use Rattle.table_check.specs.Walks.{rowsOf}
 use Rattle.table_check.specs.declared.register.Tally.{Tally}
@@ -30,3 +32,9 @@ pub record Tallied (w : ℕ) (keys used : List ℕ) (t : Tally) : Type 0 where
 pub record PageCleared (h : Index) (index : List ℕ) (page mark : ℕ) : Type 0 where
   pub met : mark ≡ inUse (rowsOf h index page)
   pub zero : Cleared (layoutOf (h .entries)) (pageBytes (layoutOf (h .entries)) index page)
+
+-- The header is in order, for a register of so many records, and the table as long as it says.
+pub record HeaderFits (index : List ℕ) (records : ℕ) : Type 0 where
+  pub limits : Limits (widthOf index) (entriesOf index) (pagesOf index) records
+  pub table : length index ≡ pageStart (layoutOf (entriesOf index)) (pagesOf index)
+  pub spare : AllZero (spareOf index)

@@ -1,6 +1,7 @@
 // The check of the tables.
 pub mod cleared;
 pub mod entries;
+pub mod header;
 pub mod leaves;
 pub mod numbers;
 pub mod pages;
