@@ -5,3 +5,4 @@ pub mod RowTurns
 pub mod MetPages
 pub mod ZeroBytes
 pub mod Headers
+pub mod WholeTree

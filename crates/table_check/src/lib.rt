@@ -6,4 +6,5 @@ pub mod leaves;
 pub mod numbers;
 pub mod pages;
 pub mod register;
+pub mod root;
 pub mod zeros;
