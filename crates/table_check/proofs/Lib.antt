@@ -6,3 +6,4 @@ pub mod MetPages
 pub mod ZeroBytes
 pub mod Headers
 pub mod WholeTree
+pub mod Verdict
