@@ -2,16 +2,15 @@
 use mathlib.Core.Path.{_≡_, refl, sym, ap, ap₂, _∙_}
 use mathlib.Core.Logic.{_⊎_, inl, inr}
 use mathlib.Core.List.{List, [], _∷_, map}
-use Prim.Native.Nat.{ℕ, zero, suc, _+_, _≤_, _<_}
+use Prim.Native.Nat.{ℕ, zero, suc, _≤_, _<_}
 use native.Mathlib.Omega.{arith}
 use lib.ListN.{length, getD}
-use Rattle.page_tree.specs.Rows.{All, sum}
-use Rattle.page_tree.specs.Tree.{Node}
-use Rattle.index_table.specs.Layout.{Layout, Ref, pageSize, pageStart, Within, pageBytes, refsOf, pageOf, store}
+use Rattle.page_tree.specs.Rows.{All}
+use Rattle.index_table.specs.Layout.{Layout, Ref, pageSize, pageStart, Within, pageBytes, refsOf, pageOf, Fitting, store}
 use Rattle.index_table.specs.Pages.{Pages, pagesAt, nodeAt, same, met, metAll}
-use Rattle.index_table.specs.Soundness.{SizedPage, SoundBelow}
+use Rattle.index_table.specs.Soundness.{SoundBelow}
 use Rattle.index_table.proofs.PageBytes.{page-beyond, page-stored, other-page}
-use Rattle.index_table.proofs.PageRows.{Fitting, length-refs, length-page-of, refs-page-of}
+use Rattle.index_table.proofs.PageRows.{length-refs, length-page-of, refs-page-of}
 use Rattle.index_table.proofs.PageCounts.{same-self, same-cases}
 
 -- ---- the entries of one page
@@ -21,12 +20,13 @@ pub refs-beyond : (L : Layout) (b : List ℕ) (p : ℕ) → length b ≤ pageSta
 refs-beyond L b p h = length-refs L (pageBytes L b p) ∙ ap (λ (l : List ℕ). getD l 1 0) (page-beyond L b p h)
 
 module _ (L : Layout) (b : List ℕ) (p : ℕ) where
-  -- A row that is stored is read, and every other page is read as before.
-  pub stored-refs : (head : List ℕ) (row : List Ref) → length head ≡ L .head → 1 < L .head → getD head 1 0 ≡ length row → length row ≤ L .entries → Fitting L row → Within L b p
+  -- A row that is stored is read.
+  pub stored-refs : (head : List ℕ) (row : List Ref) → length head ≡ L .head → 1 < L .head → getD head 1 0 ≡ length row → length row ≤ L .entries → Fitting (L .pointer) row → Within L b p
       → pagesAt L (store L b p (pageOf L head row)) p ≡ row
   stored-refs head row long two count few fit within =
       ap (refsOf L) (page-stored L b p (pageOf L head row) (length-page-of L head row long few) within) ∙ refs-page-of L head row long two count fit
 
+  -- Every other page is read as before.
   pub other-refs : (page : List ℕ) → length page ≡ pageSize L → (q : ℕ) → (p ≡ q → ⊥) → pagesAt L (store L b p page) q ≡ pagesAt L b q
   other-refs page sized q n = ap (refsOf L) (other-page L b p page sized q n)
 
@@ -62,6 +62,7 @@ module _ (L : Layout) (b b′ : List ℕ) where
       let c = each n f row (λ q k. h q (omega arith)) in
       record { nodes = λ nil. ap₂ (λ y l. y ∷ l) (a .node nil) (c .nodes nil); meets = λ q. omega (arith, a .meets q, c .meets q); sound = λ P s. (a .sound P (s .0), c .sound P (s .1)) }
 
+  -- An entry below which all pages met keep their bytes.
   pub unchanged : (n : ℕ) (x : Ref) → Keeps L b b′ (met n (pagesAt L b) x) → Unchanged L n b b′ x
   unfolding met nodeAt
   unchanged zero x h = record { node = λ nil. refl; meets = λ q. refl; sound = λ P s. tt }
@@ -74,6 +75,7 @@ module _ (L : Layout) (b b′ : List ℕ) where
         sound = λ P s. (record { number = s .0 .number; level = rw e (s .0 .level); some = rw e (s .0 .some); few = rw e (s .0 .few) }, rw e (s .1), rw e (a .sound P (s .2)));
       }
 
+  -- A row of such entries.
   pub unchanged-row : (n : ℕ) (row : List Ref) → Keeps L b b′ (metAll n (pagesAt L b) row) → UnchangedRow L n b b′ row
   unchanged-row n row h = each n (unchanged n) row h
 
@@ -87,8 +89,10 @@ module _ (L : Layout) (b : List ℕ) (p : ℕ) (page : List ℕ) (sized : length
       go (inl e) = absurd (let z : f q ≡ 0 = ap f (sym e) ∙ h in omega arith)
       go (inr e) = other-page L b p page sized q (e .0)
 
+  -- An entry below which the page is not met.
   pub store-apart : (n : ℕ) (x : Ref) → met n (pagesAt L b) x p ≡ 0 → Unchanged L n b (store L b p page) x
   store-apart n x h = unchanged L b (store L b p page) n x (store-keeps (met n (pagesAt L b) x) h)
 
+  -- A row of such entries.
   pub store-apart-row : (n : ℕ) (row : List Ref) → metAll n (pagesAt L b) row p ≡ 0 → UnchangedRow L n b (store L b p page) row
   store-apart-row n row h = unchanged-row L b (store L b p page) n row (store-keeps (metAll n (pagesAt L b) row) h)

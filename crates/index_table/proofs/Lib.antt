@@ -6,3 +6,8 @@ pub mod PageReads
 pub mod PageCounts
 pub mod Frames
 pub mod SoundNodes
+pub mod StoredRows
+pub mod UsedPages
+pub mod HeaderLaws
+pub mod Writing
+pub mod RowWriting

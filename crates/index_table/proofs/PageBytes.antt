@@ -1,16 +1,14 @@
 -- The bytes of a page within the table: read after a page is stored, and byte by byte (01, "Pages"). Assumes nothing.
-use mathlib.Core.Path.{_≡_, refl, sym, ap, _∙_}
+use mathlib.Core.Path.{_≡_, refl, ap, _∙_}
 use mathlib.Core.Bool.{Bool, true, false}
-use mathlib.Core.Logic.{_⊎_, inl, inr}
-use mathlib.Core.List.{List, [], _∷_}
-use Prim.Native.Nat.{ℕ, suc, _+_, _*_, _≤_, _<_}
+use mathlib.Core.List.{List, []}
+use Prim.Native.Nat.{ℕ, suc, _+_, _≤_, _<_}
 use native.Mathlib.Omega.{arith}
 use native.Mathlib.Nat.{mul-le-mul-right, suc-mul}
 use lib.Dec.{ltb}
 use lib.ListN.{length, getD, take, drop, length-take, length-drop, drop-of-length-le}
 use lib.Seq.{take-nil, getD-take, getD-drop}
 use borrow.Author.Tests.{ltb-true, ltb-false}
-use Rattle.index_table.specs.Bytes.{over}
 use Rattle.index_table.specs.Layout.{Layout, pageSize, pageStart, Within, pageBytes, store}
 use Rattle.index_table.proofs.ListLaws.{length-over, take-over, read-over, part-behind, part-before}
 
@@ -22,6 +20,7 @@ pages-apart L p q h = omega (arith, mul-le-mul-right {m = suc p} {n = q} (pageSi
 pub within-table : (L : Layout) (P p : ℕ) (b : List ℕ) → pageStart L P ≤ length b → p < P → Within L b p
 within-table L P p b h g = omega (arith, pages-apart L p P g)
 
+-- A page within the table has all its bytes.
 pub length-page-bytes : (L : Layout) (b : List ℕ) (p : ℕ) → Within L b p → length (pageBytes L b p) ≡ pageSize L
 unfolding pageBytes
 length-page-bytes L b p h = length-take (pageSize L) (drop (pageStart L p) b) ∙ omega (arith, length-drop (pageStart L p) b)
@@ -39,6 +38,7 @@ page-byte L b p k h = getD-take (pageSize L) (drop (pageStart L p) b) k 0 h ∙ 
 -- ---- a page is stored
 
 module _ (L : Layout) (b : List ℕ) (p : ℕ) (page : List ℕ) where
+  -- The table's length stays.
   pub length-store : length (store L b p page) ≡ length b
   length-store = length-over b (pageStart L p) page
 
@@ -46,15 +46,17 @@ module _ (L : Layout) (b : List ℕ) (p : ℕ) (page : List ℕ) where
   pub front-store : take (L .front) (store L b p page) ≡ take (L .front) b
   front-store = take-over (L .front) b (pageStart L p) page (omega arith)
 
+  -- The pages within the table stay within it.
   pub within-store : (q : ℕ) → Within L b q → Within L (store L b p page) q
   within-store q h = omega (arith, length-store)
 
   module _ (sized : length page ≡ pageSize L) where
-    -- The page is read back, and every other page stays.
+    -- The page is read back.
     pub page-stored : Within L b p → pageBytes L (store L b p page) p ≡ page
     unfolding pageBytes
     page-stored h = read-over b (pageStart L p) (pageSize L) page sized h
 
+    -- Every other page stays.
     pub other-page : (q : ℕ) → (p ≡ q → ⊥) → pageBytes L (store L b p page) q ≡ pageBytes L b q
     unfolding pageBytes
     other-page q n = go (ltb p q) refl

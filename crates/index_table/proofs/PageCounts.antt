@@ -2,17 +2,18 @@
 use mathlib.Core.Path.{_≡_, refl, sym, ap}
 use mathlib.Core.Bool.{Bool, true, false}
 use mathlib.Core.Logic.{_⊎_, inl, inr}
-use mathlib.Core.List.{List}
 use Prim.Native.Nat.{ℕ, zero, suc, _+_, _≤_, _<_}
 use native.Mathlib.Omega.{arith}
 use lib.Dec.{eqb}
 use borrow.Author.Tests.{eq-eqb, ne-eqb, eqb-true, eqb-false}
 use Rattle.index_table.specs.Pages.{same, sumTo}
 
+-- A page is itself,
 pub same-self : (p : ℕ) → same p p ≡ 1
 unfolding same
 same-self p = rw (eq-eqb p p refl)
 
+-- and no other page.
 pub same-other : (p q : ℕ) → (p ≡ q → ⊥) → same p q ≡ 0
 unfolding same
 same-other p q h = rw (ne-eqb p q h)
@@ -27,16 +28,19 @@ same-cases p q = go (eqb p q) refl
 
 -- ---- sums over the first pages
 
+-- The same numbers have the same sum.
 pub sum-to-ext : (n : ℕ) (f g : ℕ → ℕ) → ((q : ℕ) → q < n → f q ≡ g q) → sumTo n f ≡ sumTo n g
 unfolding sumTo
 sum-to-ext zero f g h = refl
 sum-to-ext (suc k) f g h = omega (arith, sum-to-ext k f g (λ q l. h q (omega arith)), h k (omega arith))
 
+-- A sum of sums.
 pub sum-to-add : (n : ℕ) (f g : ℕ → ℕ) → sumTo n (λ q. f q + g q) ≡ sumTo n f + sumTo n g
 unfolding sumTo
 sum-to-add zero f g = refl
 sum-to-add (suc k) f g = omega (arith, sum-to-add k f g)
 
+-- Nothing to sum.
 pub sum-to-zero : (n : ℕ) → sumTo n (λ q. 0) ≡ 0
 unfolding sumTo
 sum-to-zero zero = refl

@@ -2,7 +2,7 @@
 use mathlib.Core.List.{List, [], _∷_, _++_}
 use Prim.Native.Nat.{ℕ, suc, _+_, _*_}
 use lib.ListN.{getD, take, drop}
-use Rattle.index_table.specs.Bytes.{bytesOf}
+use Rattle.index_table.specs.Bytes.{bytesOf, over}
 
 -- Two bytes from place i on, as a number.
 abbrev pub wordAt : List ℕ → ℕ → ℕ
@@ -29,3 +29,10 @@ spareOf b = take 8 (drop 8 b)
 
 unfoldable pub headerBytes : ℕ → ℕ → ℕ → ℕ → ℕ → List ℕ
 headerBytes w e p root held = w ∷ e ∷ bytesOf 2 p ++ bytesOf 2 root ++ bytesOf 2 held ++ 0 ∷ 0 ∷ 0 ∷ 0 ∷ 0 ∷ 0 ∷ 0 ∷ 0 ∷ []
+
+-- The table with another root page, and with another number of records held.
+abbrev pub withRoot : List ℕ → ℕ → List ℕ
+withRoot b root = over b 4 (bytesOf 2 root)
+
+abbrev pub withHeld : List ℕ → ℕ → List ℕ
+withHeld b held = over b 6 (bytesOf 2 held)

@@ -1,7 +1,8 @@
 -- Where pages stand in the index table's bytes, what is read from one, and what is written (01, "Pages"). Assumes nothing.
 use mathlib.Core.List.{List, [], _∷_, _++_}
-use Prim.Native.Nat.{ℕ, zero, suc, _+_, _*_, _-_, _^_, _≤_}
+use Prim.Native.Nat.{ℕ, zero, suc, _+_, _*_, _-_, _^_, _≤_, _<_}
 use lib.ListN.{length, getD, take, drop, replicate}
+use Rattle.page_tree.specs.Rows.{All}
 use Rattle.index_table.specs.Bytes.{number, bytesOf, over, table}
 
 -- The sizes that a table's format fixes, in bytes: before the pages; of a page before its entries; of a pointer. Then the entries a page may hold.
@@ -69,6 +70,14 @@ rowBytes pointer (x ∷ xs) = refBytes pointer x ++ rowBytes pointer xs
 
 unfoldable pub pageOf : Layout → List ℕ → List Ref → List ℕ
 pageOf L head row = head ++ rowBytes (L .pointer) row ++ replicate (entrySize L * (L .entries - length row)) 0
+
+-- The pointers of a row fit their bytes.
+abbrev pub Fitting : ℕ → List Ref → Type 0
+Fitting pointer row = All (λ (x : Ref). x .1 < 256 ^ pointer) row
+
+-- "Page: level, count, then entries": the page of a level with a row.
+abbrev pub rowPage : ℕ → ℕ → List Ref → List ℕ
+rowPage E level row = pageOf (layoutOf E) (level ∷ length row ∷ []) row
 
 -- The table with page p written.
 abbrev pub store : Layout → List ℕ → ℕ → List ℕ → List ℕ

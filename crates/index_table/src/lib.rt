@@ -1,3 +1,4 @@
 // The index table as bytes: its header and its pages.
 pub mod header;
 pub mod layout;
+pub mod write;

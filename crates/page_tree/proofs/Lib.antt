@@ -8,3 +8,8 @@ pub mod WalkPlaces
 pub mod TreeLaws
 pub mod FindingLaws
 pub mod SmallPages
+pub mod RowLaws
+pub mod Choice
+pub mod PartLaws
+pub mod PartEnds
+pub mod RowCuts

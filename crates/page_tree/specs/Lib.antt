@@ -5,3 +5,4 @@ pub mod Walk
 pub mod Finding
 pub mod OnPages
 pub mod OffPages
+pub mod Row

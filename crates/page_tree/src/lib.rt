@@ -1,4 +1,10 @@
 // Pages as rows: the row that is changed and cut, and what deletion asks of the entry before.
+ghost use mathlib.Core.Path.{_≡_};
+ghost use mathlib.Core.List.{[], _∷_, _++_};
+ghost use Prim.Native.Nat.{_+_, _-_, _≤_, _<_};
+ghost use lib.ListN.{length, getD, set};
+ghost use Rattle.page_tree.specs.Cutting.{split};
+ghost use Rattle.page_tree.specs.Row.{depthOf, rowOf, partOf, insertedAt, Holds, CutPre, CutPost, CutsPost};
 
 // What deletion asks of the entry before, on its way back to the left: nothing; to take a depth;
 // to go where it is a dummy deeper than a depth.
@@ -6,4 +12,172 @@ pub enum Unwind {
     Idle,
     Give(u8),
     Clear(u8),
+}
+
+// A row of entries: entry i, below count, has the depth depths[i] and the pointer pointers[i].
+pub struct Row {
+    pub depths: [u8; 319],
+    pub pointers: [u32; 319],
+    pub count: usize,
+}
+
+// Where a row is cut: past the last entry of each part, in order; the first count places are in use.
+pub struct Cuts {
+    pub ends: [usize; 65],
+    pub count: usize,
+}
+
+impl Row {
+    // No entry.
+    pub fn new() -> Row
+        ensures { λ r. ⌜ Holds r 0 [] ⌝ }
+    {
+        Row {
+            depths: [0u8; 319],
+            pointers: [0u32; 319],
+            count: 0,
+        }
+    }
+
+    // One entry more, behind the others.
+    pub fn push(self, d: u8, p: u32) -> Row
+        requires { ⌜ self .count < 319 ⌝ }
+        ensures { λ r. ⌜ Holds r (self .count + 1) (rowOf self ++ (d, p) ∷ []) ⌝ }
+    {
+        let mut r = self;
+        let n = r.count;
+        r.depths[n] = d;
+        r.pointers[n] = p;
+        r.count = n + 1;
+        r
+    }
+
+    // The depth of entry i.
+    pub fn depth(self, i: usize) -> u8
+        requires { ⌜ (i < self .count) × (self .count ≤ 319) ⌝ }
+        ensures { λ r. ⌜ r ≡ depthOf (getD (rowOf self) i (0, 0)) ⌝ }
+    {
+        self.depths[i]
+    }
+
+    // The pointer of entry i.
+    pub fn pointer(self, i: usize) -> u32
+        requires { ⌜ (i < self .count) × (self .count ≤ 319) ⌝ }
+        ensures { λ r. ⌜ r ≡ (getD (rowOf self) i (0, 0)) .1 ⌝ }
+    {
+        self.pointers[i]
+    }
+
+    // Another entry in the place of entry i.
+    pub fn replace(self, i: usize, d: u8, p: u32) -> Row
+        requires { ⌜ (i < self .count) × (self .count ≤ 319) ⌝ }
+        ensures { λ r. ⌜ Holds r (self .count) (set (rowOf self) i (d, p)) ⌝ }
+    {
+        let mut r = self;
+        r.depths[i] = d;
+        r.pointers[i] = p;
+        r
+    }
+
+    // One entry more, before entry i: it is put at the end and swapped down.
+    pub fn insert(self, i: usize, d: u8, p: u32) -> Row
+        requires { ⌜ (i ≤ self .count) × (self .count < 319) ⌝ }
+        ensures { λ r. ⌜ Holds r (self .count + 1) (insertedAt i (d, p) (rowOf self)) ⌝ }
+    {
+        let mut r = self;
+        let n = r.count;
+        r.depths[n] = d;
+        r.pointers[n] = p;
+        let mut k = n;
+        while i < k {
+            let j = k - 1;
+            let dj = r.depths[j];
+            let pj = r.pointers[j];
+            r.depths[k] = dj;
+            r.pointers[k] = pj;
+            r.depths[j] = d;
+            r.pointers[j] = p;
+            k = j;
+        }
+        r.count = n + 1;
+        r
+    }
+
+    // The entries of another row from one place up to another, behind the others.
+    pub fn append(self, other: Row, from: usize, to: usize) -> Row
+        requires { ⌜ (from ≤ to) × (to ≤ 319) × (self .count + (to - from) ≤ 319) ⌝ }
+        ensures { λ r. ⌜ Holds r (self .count + (to - from)) (rowOf self ++ partOf other from to) ⌝ }
+    {
+        let mut r = self;
+        let mut k = r.count;
+        let mut i = from;
+        while i < to {
+            let d = other.depths[i];
+            let p = other.pointers[i];
+            r.depths[k] = d;
+            r.pointers[k] = p;
+            k += 1;
+            i += 1;
+        }
+        r.count = k;
+        r
+    }
+
+    // The ends of the parts in which the row stands in pages of at most e entries.
+    pub fn cuts(self, e: u8) -> Cuts
+        requires { ⌜ (2 ≤ e) × (1 ≤ self .count) × (self .count ≤ e + 64) ⌝ }
+        ensures { λ r. ⌜ CutsPost e self r ⌝ }
+    {
+        let n = self.count;
+        cut_part(
+            self,
+            e,
+            0,
+            n,
+            Cuts {
+                ends: [0usize; 65],
+                count: 0,
+            },
+        )
+    }
+}
+
+// A byte as a number of entries.
+fn wide(x: u8) -> usize
+    ensures { λ r. ⌜ (r ≡ x) × (r ≤ 255) ⌝ }
+{
+    x as usize
+}
+
+// Past the first shallowest of the entries from one place up to another, the last left out of the choice.
+pub fn split_at(row: Row, from: usize, to: usize) -> usize
+    requires { ⌜ (from + 2 ≤ to) × (to ≤ 319) ⌝ }
+    ensures { λ r. ⌜ r ≡ from + length (split depthOf (partOf row from to) .1) ⌝ }
+{
+    let mut best = to - 2;
+    let mut i = best;
+    while from < i {
+        i -= 1;
+        if row.depths[i] <= row.depths[best] {
+            best = i;
+        }
+    }
+    best + 1
+}
+
+// The ends of the parts of the entries from one place up to another, behind the ends before.
+fn cut_part(row: Row, e: u8, from: usize, to: usize, before: Cuts) -> Cuts
+    requires { ⌜ CutPre e from to before ⌝ }
+    ensures { λ r. ⌜ CutPost e row from to before r ⌝ }
+{
+    if to - from <= wide(e) {
+        let mut c = before;
+        let n = c.count;
+        c.ends[n] = to;
+        c.count = n + 1;
+        return c;
+    }
+    let m = split_at(row, from, to);
+    let left = cut_part(row, e, from, m, before);
+    cut_part(row, e, m, to, left)
 }

@@ -1,5 +1,4 @@
 -- A pointer is a record unless it is NIL. Assumes nothing.
-use mathlib.Core.Path.{_≡_, sym, _∙_}
 use borrow.Author.Tests.{eq-eqb, ne-eqb}
 use borrow.Author.Needs.{needs}
 use Rattle.index_table.proofs.layout.record.Statement.{statement}

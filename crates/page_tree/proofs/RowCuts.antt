@@ -1,0 +1,153 @@
+-- The ends of the parts of a row, part by part. Assumes nothing.
+use mathlib.Core.Path.{_≡_, refl, sym, ap, _∙_}
+use mathlib.Core.List.{List, [], _∷_, _++_, append-assoc}
+use Prim.Native.Nat.{ℕ, suc, _+_, _-_, _≤_, _<_}
+use native.Mathlib.Omega.{arith}
+use native.Mathlib.Numerals.{add-one}
+use lib.ListN.{length, getD, set, take}
+use lib.Seq.{slice, take-suc-set, length-slice, length-take-le, getD-take, take-length}
+use Rattle.page_tree.specs.declared.Row.{Row}
+use Rattle.page_tree.specs.declared.Cuts.{Cuts}
+use Rattle.page_tree.specs.Rows.{concat, lastDepth}
+use Rattle.page_tree.specs.Cutting.{split, parts}
+use Rattle.page_tree.specs.Row.{Pair, depthOf, places, rowOf, partOf, endsOf, endsIn, CutPre, CutPost, CutsPost}
+use Rattle.page_tree.proofs.PartLaws.{cut-fits, cut-join}
+use Rattle.page_tree.proofs.PartEnds.{startOf, length-ends, end-at, end-within, part-at, start-next, all-at, parts-sizes, ends-long}
+use Rattle.page_tree.proofs.RowLaws.{Full, length-zip, place-at, length-row, part-of-row, slice-more}
+
+-- A part is cut at m, inside it, and both its parts can be cut again, one behind the other.
+pub record Inside (e : ℕ) (row : Row) (from to m : ℕ) (before : Cuts) : Type 0 where
+  pub after : from < m
+  pub ahead : m < to
+  pub left-part : CutPre e from m before
+  pub right-part : (left : Cuts) → CutPost e row from m before left → CutPre e m to left
+
+module _ {e from to : ℕ} {before : Cuts} (row : Row) (full : Full (row .depths) (row .pointers)) (pre : CutPre e from to before) where
+  -- The part is inside the row.
+  fits : to ≤ length (places row)
+  fits = omega (arith, pre .within, length-zip (row .depths) (row .pointers) full)
+
+  -- One part: its end is stored.
+  pub cut-one : length (before .ends) ≡ 65 → to - from ≤ e
+      → CutPost e row from to before (record { ends = set (before .ends) (before .count) to; count = before .count + 1 })
+  cut-one l h =
+      let n = length-slice from to (places row) fits in
+      let end : from + length (partOf row from to) ≡ to = omega (arith, pre .some) in
+      record {
+        ends =
+            rw (add-one (before .count), cut-fits depthOf e (length (partOf row from to)) (partOf row from to) (omega arith), end)
+            (take-suc-set (before .ends) (before .count) to (omega (arith, pre .room)));
+        some = omega arith;
+        few = omega arith;
+      }
+
+  -- Cut at m: the left part, then the right.
+  module _ (long : e < to - from) (m : ℕ) (at : m ≡ from + length (split depthOf (partOf row from to) .1)) where
+    -- Where m is, and the ends of both.
+    halves : (from < m) × (m < to)
+        × (endsOf from (parts depthOf e (partOf row from to)) ≡ endsOf from (parts depthOf e (partOf row from m)) ++ endsOf m (parts depthOf e (partOf row m to)))
+    halves = ends-long depthOf e (pre .size) (places row) from to m (omega (arith, pre .some)) fits long at
+
+    -- What both calls ask.
+    pub cut-inside : Inside e row from to m before
+    cut-inside = record {
+      after = halves .0;
+      ahead = halves .1;
+      left-part = record {
+        some = halves .0;
+        within = omega (arith, pre .within, halves .1);
+        size = pre .size;
+        room = omega (arith, pre .room, halves .1);
+      };
+      right-part = λ left h. record {
+        some = halves .1;
+        within = pre .within;
+        size = pre .size;
+        room = omega (arith, pre .room, pre .size, h .few, halves .0, halves .1);
+      };
+    }
+
+    -- What they leave.
+    pub cut-both : (left after : Cuts) → CutPost e row from m before left → CutPost e row m to left after → CutPost e row from to before after
+    cut-both left after h g = record {
+      ends =
+          g .ends ∙ ap (λ l. l ++ endsOf m (parts depthOf e (partOf row m to))) (h .ends)
+          ∙ append-assoc (endsIn before) (endsOf from (parts depthOf e (partOf row from m))) (endsOf m (parts depthOf e (partOf row m to)))
+          ∙ ap (λ l. endsIn before ++ l) (sym (halves .2));
+      some = omega (arith, h .some, g .some);
+      few = omega (arith, pre .size, h .few, g .few, halves .0, halves .1);
+    }
+
+-- An end that is in use.
+end-read : (cuts : Cuts) (es : List ℕ) (k : ℕ) → endsIn cuts ≡ es → k < cuts .count → getD (cuts .ends) k 0 ≡ getD es k 0
+end-read cuts es k h l = sym (getD-take (cuts .count) (cuts .ends) k 0 l) ∙ ap (λ r. getD r k 0) h
+
+-- The whole row, with no end before.
+pub cut-all : {e : ℕ} {row : Row} {none after : Cuts} → Full (row .depths) (row .pointers) → row .count ≤ 319 → row .count ≤ e + 64
+    → length (after .ends) ≡ 65 → none .count ≡ 0 → CutPost e row 0 (row .count) none after → CutsPost e row after
+cut-all {e} {row} {none} {after} full small most l no-end h =
+    let ps = parts depthOf e (rowOf row) in
+    let ends : endsIn after ≡ endsOf 0 ps = h .ends ∙ ap (λ (n : ℕ). take n (none .ends) ++ endsOf 0 ps) no-end in
+    let few : after .count ≤ 65 = omega (arith, h .few) in
+    let count : after .count ≡ length ps = sym (length-take-le (after .count) (after .ends) (omega arith)) ∙ ap length ends ∙ length-ends 0 ps in
+    let whole : length (concat ps) ≡ row .count = ap length (cut-join depthOf e (length (rowOf row)) (rowOf row)) ∙ length-row row full small in
+    record {
+      ends = ends;
+      count = count;
+      some = omega (arith, h .some);
+      few = few;
+      within = λ k b. omega (arith, end-read after (endsOf 0 ps) k ends b, end-within 0 ps k (omega arith));
+    }
+
+-- Part k of the parts ps of a row stands from one place up to another.
+pub record Part (e : ℕ) (row : Row) (ps : List (List Pair)) (k from to : ℕ) : Type 0 where
+  pub entries : partOf row from to ≡ getD ps k []
+  pub next : to ≡ startOf ps (suc k)
+  pub some : from < to
+  pub few : to ≤ from + e
+  pub within : to ≤ row .count
+
+-- What stands between an end and the one before is the part, with 1 to e entries.
+pub cuts-part : {e : ℕ} {row : Row} {cuts : Cuts} → 1 ≤ e → 1 ≤ length (rowOf row) → CutsPost e row cuts → (k : ℕ) → k < cuts .count
+    → (from : ℕ) → from ≡ startOf (parts depthOf e (rowOf row)) k → Part e row (parts depthOf e (rowOf row)) k from (getD (cuts .ends) k 0)
+cuts-part {e} {row} {cuts} one some h k l from f =
+    let ps = parts depthOf e (rowOf row) in
+    let to = getD (cuts .ends) k 0 in
+    let b : k < length ps = omega (arith, h .count) in
+    let end : to ≡ startOf ps (suc k) = end-read cuts (endsOf 0 ps) k (h .ends) l ∙ end-at 0 ps k b ∙ omega arith in
+    let sized = all-at (λ xs. (1 ≤ length xs) × (length xs ≤ e)) ps [] k b (parts-sizes depthOf e one (rowOf row) some) in
+    let step = start-next ps k b in
+    record {
+      entries =
+          rw (f, end) (sym (part-at ps k b
+          ∙ ap (slice (startOf ps k) (startOf ps (suc k))) (cut-join depthOf e (length (rowOf row)) (rowOf row))
+          ∙ sym (part-of-row row (startOf ps k) (startOf ps (suc k)) (rw end at (h .within k l)))));
+      next = end;
+      some = omega (arith, sized .0);
+      few = omega (arith, sized .1);
+      within = h .within k l;
+    }
+
+-- Behind the last part the row ends.
+pub cuts-end : {e : ℕ} {row : Row} {cuts : Cuts} → Full (row .depths) (row .pointers) → row .count ≤ 319 → CutsPost e row cuts
+    → startOf (parts depthOf e (rowOf row)) (cuts .count) ≡ row .count
+cuts-end {e} {row} {cuts} full small h =
+    let ps = parts depthOf e (rowOf row) in
+    ap (λ (k : ℕ). startOf ps k) (h .count) ∙ ap (λ xss. length (concat xss)) (take-length ps)
+    ∙ ap length (cut-join depthOf e (length (rowOf row)) (rowOf row)) ∙ length-row row full small
+
+-- The depth of a part in its parent is that of its last entry.
+pub part-last : (row : Row) → Full (row .depths) (row .pointers) → (from to τ : ℕ) → from < to → to ≤ 319
+    → lastDepth depthOf τ (partOf row from to) ≡ getD (row .depths) (to - 1) 0
+part-last row full from to τ h l =
+    let z = places row in
+    let n = length-zip (row .depths) (row .pointers) full in
+    let a : to ≡ to - 1 + 1 = omega arith in
+    ap (λ (k : ℕ). lastDepth depthOf τ (slice from k z)) a
+    ∙ ap (lastDepth depthOf τ) (slice-more from (to - 1) z (0, 0) (omega arith) (omega arith))
+    ∙ last-behind τ (slice from (to - 1) z) (getD z (to - 1) (0, 0))
+    ∙ ap depthOf (place-at (row .depths) (row .pointers) full (to - 1) (omega arith))
+  where
+    last-behind : (τ : ℕ) (xs : List Pair) (x : Pair) → lastDepth depthOf τ (xs ++ x ∷ []) ≡ depthOf x
+    last-behind τ [] x = refl
+    last-behind τ (y ∷ ys) x = last-behind (depthOf y) ys x
