@@ -7,3 +7,4 @@ pub mod ZeroBytes
 pub mod Headers
 pub mod WholeTree
 pub mod Verdict
+pub mod SoundTables
