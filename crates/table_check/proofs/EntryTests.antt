@@ -1,19 +1,19 @@
 -- The tests of one entry on level 0, and what is carried behind it. Assumes nothing.
-use mathlib.Core.Path.{_≡_, refl, sym, ap, subst, _∙_}
+use mathlib.Core.Path.{_≡_, refl, sym, ap, _∙_}
 use mathlib.Core.Logic.{_≢_}
-use mathlib.Core.Bool.{Bool, true, false, cond, not, _&&_, _||_, true≢false}
-use mathlib.Core.Option.{Option, none, some}
+use mathlib.Core.Bool.{Bool, true, false, cond, not, _&&_, true≢false}
+use mathlib.Core.Option.{none, some}
 use mathlib.Core.List.{List, [], _∷_}
-use Prim.Native.Nat.{ℕ, zero, suc, _≤_, _<_, _^_, max}
+use Prim.Native.Nat.{ℕ, suc, _≤_, _<_, _^_, max}
 use native.Mathlib.Omega.{arith}
-use lib.Dec.{eqb, ltb, leb}
-use lib.ListN.{length, getD, List·getD-eq-default}
+use lib.Dec.{eqb, leb}
+use lib.ListN.{length, List·getD-eq-default}
 use lib.Pow.{pow-pos}
 use borrow.Author.Tests.{eq-eqb, ne-eqb, leb-true, leb-false}
 use Rattle.leaf_list.specs.Keys.{setBitAt, firstBits}
 use Rattle.leaf_list.specs.Entries.{Entry, entry, isNil}
 use Rattle.leaf_list.specs.Register.{keyAt, inUse}
-use Rattle.leaf_list.specs.Conditions.{State, step, run, entryFits, pointerFits}
+use Rattle.leaf_list.specs.Conditions.{step, run, entryFits, pointerFits}
 use Rattle.leaf_list.proofs.CheckLoop.{fits-depth}
 use Rattle.index_table.specs.Pages.{recordOf}
 use Rattle.table_check.specs.Walks.{stateOf, Carried, Passing, Scanned}

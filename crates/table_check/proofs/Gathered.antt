@@ -5,14 +5,13 @@ use mathlib.Core.Bool.{Bool, true, false, cond, true≢false}
 use mathlib.Core.List.{List, [], _∷_}
 use Prim.Native.Nat.{ℕ, zero, suc, _+_, _-_, _*_, _/_, _%_, _^_, _≤_, _<_}
 use native.Mathlib.Omega.{arith}
-use native.Mathlib.Numerals.{add-one}
-use lib.Dec.{eqb, ltb}
-use lib.Bits.{bitOr, bitAnd, or-add-and, and-le-r, and-le-l, or-lt, or-zero-l, and-zero-r, and-mask}
+use lib.Dec.{eqb}
+use lib.Bits.{bitOr, bitAnd, or-add-and, and-le-r, and-le-l, or-lt, and-zero-r, and-mask}
 use lib.ListN.{length, getD, take}
 use lib.Pow.{pow-pos}
 use borrow.Author.Count.{below-more}
 use lib.Seq.{take-all}
-use borrow.Author.Tests.{eqb-true, eqb-false, eq-eqb, ne-eqb}
+use borrow.Author.Tests.{eqb-true, eqb-false}
 use native.Mathlib.Nat.{mod-eq-of-lt}
 use Rattle.leaf_list.specs.Register.{countInUse}
 use Rattle.index_table.specs.Soundness.{SoundRecord}

@@ -3,21 +3,21 @@ use mathlib.Core.Path.{_≡_, refl, sym, ap, ap₂, subst, _∙_}
 use mathlib.Core.Logic.{_↔_, _⊎_, inl, inr}
 use mathlib.Core.Bool.{Bool, true, false, true≢false}
 use mathlib.Core.List.{List, [], _∷_}
-use Prim.Native.Nat.{ℕ, zero, suc, _+_, _-_, _≤_, _<_}
+use Prim.Native.Nat.{ℕ, suc, _+_, _-_, _≤_, _<_}
 use native.Mathlib.Omega.{arith}
 use lib.Dec.{leb}
 use lib.ListN.{length, getD, set}
 use lib.Seq.{getD-set-same, getD-set-other}
 use borrow.Author.Tests.{leb-true, le-leb}
-use Rattle.page_tree.specs.Rows.{All, Closed, sum}
-use Rattle.index_table.specs.Layout.{Ref, layoutOf, pageStart, Within, pageBytes, levelOf, countOf}
+use Rattle.page_tree.specs.Rows.{Closed}
+use Rattle.index_table.specs.Layout.{Ref, layoutOf, pageBytes, levelOf, countOf}
 use Rattle.index_table.specs.Pages.{Pages, nodeAt, same, met, metAll}
-use Rattle.index_table.specs.Soundness.{SizedPage, SoundBelow}
+use Rattle.index_table.specs.Soundness.{SizedPage}
 use Rattle.index_table.specs.declared.header.Index.{Index}
 use Rattle.index_table.proofs.PageBytes.{within-table}
 use Rattle.index_table.proofs.PageRows.{length-refs}
 use Rattle.index_table.proofs.PageCounts.{same-self, same-cases}
-use Rattle.table_check.specs.Walks.{stateOf, Carried, Passing, Scanned, rowsOf, leavesBelow, leavesOfRow, Ends, RowSound, EntrySound, LeavesPre, WalkPre, Entered, Walked}
+use Rattle.table_check.specs.Walks.{Carried, Scanned, rowsOf, leavesOfRow, Ends, RowSound, EntrySound, LeavesPre, WalkPre, Entered, Walked}
 use Rattle.table_check.specs.declared.entries.Scan.{Scan}
 use Rattle.table_check.specs.declared.entries.Checked.{Checked}
 use Rattle.table_check.proofs.Iff.{iff-no, iff-yes, said-no}

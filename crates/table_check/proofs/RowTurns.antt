@@ -8,15 +8,13 @@ use native.Mathlib.Omega.{arith}
 use lib.Dec.{eqb, ltb}
 use lib.ListN.{length, getD}
 use borrow.Author.Tests.{eqb-true, eq-eqb, ne-eqb, ltb-true, lt-ltb}
-use Rattle.leaf_list.specs.Entries.{Entry, entry, liveRecords}
+use Rattle.leaf_list.specs.Entries.{Entry, entry}
 use Rattle.leaf_list.specs.Register.{keyAt, inUse}
 use Rattle.leaf_list.specs.Conditions.{State, run}
 use Rattle.leaf_list.proofs.Check.{run-append, run-lost, run-live}
-use Rattle.page_tree.specs.Rows.{All, sum}
 use Rattle.index_table.specs.Bytes.{table}
-use Rattle.index_table.specs.Layout.{Layout, Ref, layoutOf, pageBytes, countOf, refAt, refsOf}
+use Rattle.index_table.specs.Layout.{Ref, layoutOf, pageBytes, countOf, refAt, refsOf}
 use Rattle.index_table.specs.Pages.{Pages, recordOf, nodeAt, met, metAll}
-use Rattle.index_table.specs.Soundness.{SoundBelow}
 use Rattle.index_table.specs.declared.header.Index.{Index}
 use Rattle.index_table.proofs.ListLaws.{table-cons}
 use Rattle.index_table.proofs.PageRows.{length-refs}
@@ -74,15 +72,16 @@ module _ (h : Index) (index keys used : List ℕ) (c n : ℕ) where
     pub marked : (q : ℕ) → getD map q 0 ≤ 1
     pub carried : Carried (h .width) (h .held) s
 
-  pub turned-none : (row : List Ref) (map : List ℕ) (s : Scan) → ((q : ℕ) → getD map q 0 ≤ 1) → Carried (h .width) (h .held) s → Turned row map s row map s
+module _ {h : Index} {index keys used : List ℕ} {c n : ℕ} where
+  pub turned-none : (row : List Ref) (map : List ℕ) (s : Scan) → ((q : ℕ) → getD map q 0 ≤ 1) → Carried (h .width) (h .held) s → Turned h index keys used c n row map s row map s
   turned-none row map s m k = record { same = ((λ z. z), (λ z. z)); state = refl; marks = λ q. refl; marked = m; carried = k }
 
-  module _ {row : List Ref} {map₀ : List ℕ} {s₀ : Scan} {x : Ref} {rest : List Ref} {map : List ℕ} {s : Scan} (t : Turned row map₀ s₀ (x ∷ rest) map s) where
+  module _ {row : List Ref} {map₀ : List ℕ} {s₀ : Scan} {x : Ref} {rest : List Ref} {map : List ℕ} {s : Scan} (t : Turned h index keys used c n row map₀ s₀ (x ∷ rest) map s) where
     -- One entry more, that is in order.
     pub turned-more : cond (last rest) (eqb (x .0) c) (ltb c (x .0)) ≡ true → EntrySound h index n x map
         → (map′ : List ℕ) → ((q : ℕ) → getD map′ q 0 ≡ getD map q 0 + met n (rowsOf h index) x q)
         → (s′ : Scan) → stateOf s′ ≡ run (h .width) (keyAt keys) (inUse used) (stateOf s) (leavesBelow n (rowsOf h index) x) → Carried (h .width) (h .held) s′
-        → Turned row map₀ s₀ rest map′ s′
+        → Turned h index keys used c n row map₀ s₀ rest map′ s′
     turned-more d e map′ m s′ z k =
         record {
           same = ((λ a. to (t .same .0 a)), (λ a. t .same .1 (fro a)));
@@ -117,7 +116,7 @@ module _ (h : Index) (index keys used : List ℕ) (c n : ℕ) where
         (passing-front (h .width) keys used (h .held) (stateOf s) (leavesBelow n (rowsOf h index) x) (leavesOfRow n (rowsOf h index) rest) (r .1))
 
   -- Nothing is left.
-  module _ {row : List Ref} {map₀ : List ℕ} {s₀ : Scan} {map : List ℕ} {s : Scan} (t : Turned row map₀ s₀ [] map s) where
+  module _ {row : List Ref} {map₀ : List ℕ} {s₀ : Scan} {map : List ℕ} {s : Scan} (t : Turned h index keys used c n row map₀ s₀ [] map s) where
     pub turned-all : RowSound h index c n row map₀ × Passing (h .width) keys used (h .held) (stateOf s₀) (leavesOfRow n (rowsOf h index) row)
     turned-all = t .same .1 (record { ends = tt; sound = tt; once = λ q. omega (arith, t .marked q) }, record { fits = refl; few = t .carried .live })
 
@@ -151,16 +150,17 @@ module _ (h : Index) (index keys used : List ℕ) (page c n : ℕ) where
     pub some : i ≤ count
     pub turned : Turned h index keys used c n (rowsOf h index page) map₀ s₀ (entriesFrom h index page count i) map s
 
-  pub row-start : (count : ℕ) (map : List ℕ) (s : Scan) → count ≡ countOf (pageBytes (layoutOf (h .entries)) index page) → ((q : ℕ) → getD map q 0 ≤ 1) → Carried (h .width) (h .held) s → RowTurn count map s map s 0
+module _ {h : Index} {index keys used : List ℕ} {page c n : ℕ} where
+  pub row-start : (count : ℕ) (map : List ℕ) (s : Scan) → count ≡ countOf (pageBytes (layoutOf (h .entries)) index page) → ((q : ℕ) → getD map q 0 ≤ 1) → Carried (h .width) (h .held) s → RowTurn h index keys used page c n count map s map s 0
   unfolding refsOf
   row-start count map s e m k =
       record {
         some = omega arith;
         turned = subst (λ (r : List Ref). Turned h index keys used c n (rowsOf h index page) map s r map s)
-            (ap (table (entryAt h index page) 0) (sym e ∙ (let z : count ≡ count - 0 = omega arith in z))) (turned-none h index keys used c n (rowsOf h index page) map s m k);
+            (ap (table (entryAt h index page) 0) (sym e ∙ (let z : count ≡ count - 0 = omega arith in z))) (turned-none (rowsOf h index page) map s m k);
       }
 
-  module _ {count : ℕ} {map₀ : List ℕ} {s₀ : Scan} {map : List ℕ} {s : Scan} {i : ℕ} (t : RowTurn count map₀ s₀ map s i) (l : i < count) where
+  module _ {count : ℕ} {map₀ : List ℕ} {s₀ : Scan} {map : List ℕ} {s : Scan} {i : ℕ} (t : RowTurn h index keys used page c n count map₀ s₀ map s i) (l : i < count) where
     here : Turned h index keys used c n (rowsOf h index page) map₀ s₀ (entryAt h index page i ∷ entriesFrom h index page count (i + 1)) map s
     here = subst (λ (r : List Ref). Turned h index keys used c n (rowsOf h index page) map₀ s₀ r map s) (table-cons (entryAt h index page) i count l) (t .turned)
 
@@ -173,29 +173,29 @@ module _ (h : Index) (index keys used : List ℕ) (page c n : ℕ) where
     Refused r = Scanned (RowSound h index c n (rowsOf h index page) map₀) (h .width) keys used (h .held) s₀ (leavesOfRow n (rowsOf h index) (rowsOf h index page)) r
 
     pub row-depth : (d : ℕ) → d ≡ entryAt h index page i .0 → cond (eqb (i + 1) count) (eqb d c) (ltb c d) ≡ false → (r : Checked) → r .ok ≡ false → Refused r
-    row-depth d e z r o = scanned-no r o (turned-depth h index keys used c n here (sym (test d e) ∙ z))
+    row-depth d e z r o = scanned-no r o (turned-depth here (sym (test d e) ∙ z))
 
     module _ {r : Checked} (a : Scanned (EntrySound h index n (entryAt h index page i) map) (h .width) keys used (h .held) s (leavesBelow n (rowsOf h index) (entryAt h index page i)) r) where
       pub row-entry : r .ok ≡ false → Refused r
-      row-entry o = scanned-no r o (turned-entry h index keys used c n here (λ e p. true≢false (sym (a .verdict .1 (e, p)) ∙ o)))
+      row-entry o = scanned-no r o (turned-entry here (λ e p. true≢false (sym (a .verdict .1 (e, p)) ∙ o)))
 
       pub row-more : r .ok ≡ true → (d : ℕ) → d ≡ entryAt h index page i .0 → cond (eqb (i + 1) count) (eqb d c) (ltb c d) ≡ true
-          → (map′ : List ℕ) → ((q : ℕ) → getD map′ q 0 ≡ getD map q 0 + met n (rowsOf h index) (entryAt h index page i) q) → RowTurn count map₀ s₀ map′ (r .scan) (i + 1)
+          → (map′ : List ℕ) → ((q : ℕ) → getD map′ q 0 ≡ getD map q 0 + met n (rowsOf h index) (entryAt h index page i) q) → RowTurn h index keys used page c n count map₀ s₀ map′ (r .scan) (i + 1)
       row-more o d e z map′ m =
-          record { some = omega arith; turned = turned-more h index keys used c n here (sym (test d e) ∙ z) (a .verdict .0 o .0) map′ m (r .scan) (a .state o) (a .carried o) }
+          record { some = omega arith; turned = turned-more here (sym (test d e) ∙ z) (a .verdict .0 o .0) map′ m (r .scan) (a .state o) (a .carried o) }
 
   -- All entries were in order.
-  module _ {count : ℕ} {map₀ : List ℕ} {s₀ : Scan} {map : List ℕ} {s : Scan} {i : ℕ} (t : RowTurn count map₀ s₀ map s i) (l : count ≤ i) where
+  module _ {count : ℕ} {map₀ : List ℕ} {s₀ : Scan} {map : List ℕ} {s : Scan} {i : ℕ} (t : RowTurn h index keys used page c n count map₀ s₀ map s i) (l : count ≤ i) where
     done : Turned h index keys used c n (rowsOf h index page) map₀ s₀ [] map s
     unfolding table
     done =
         subst (λ (r : List Ref). Turned h index keys used c n (rowsOf h index page) map₀ s₀ r map s) (ap (table (entryAt h index page) i) (let z : count - i ≡ 0 = omega arith in z)) (t .turned)
 
     pub row-all : Scanned (RowSound h index c n (rowsOf h index page) map₀) (h .width) keys used (h .held) s₀ (leavesOfRow n (rowsOf h index) (rowsOf h index page)) (record { ok = true; scan = s })
-    row-all = let a = turned-all h index keys used c n done in scanned-yes _ refl (a .0) (a .1) (sym (done .state)) (done .carried)
+    row-all = let a = turned-all done in scanned-yes _ refl (a .0) (a .1) (sym (done .state)) (done .carried)
 
     pub row-marks : (q : ℕ) → getD map q 0 ≡ getD map₀ q 0 + metAll n (rowsOf h index) (rowsOf h index page) q
-    row-marks = turned-marks h index keys used c n done
+    row-marks = turned-marks done
 
 -- ---- an entry on level 0
 

@@ -2,7 +2,7 @@
 use mathlib.Core.Path.{_≡_, refl, sym, ap, _∙_}
 use mathlib.Core.Bool.{Bool, true, false, true≢false}
 use mathlib.Core.List.{List}
-use Prim.Native.Nat.{ℕ, suc, _+_, _*_, _^_, _≤_, _<_}
+use Prim.Native.Nat.{ℕ, suc, _^_, _≤_, _<_}
 use native.Mathlib.Omega.{arith}
 use lib.Dec.{ltb}
 use lib.ListN.{length}
@@ -10,16 +10,16 @@ use borrow.Author.Tests.{ltb-true, ltb-false}
 use Rattle.leaf_list.specs.Entries.{liveRecords}
 use Rattle.leaf_list.specs.Herd.{Narrow, Sorted, KeysOf, recordsOf}
 use Rattle.leaf_list.specs.LeafList.{leafList}
-use Rattle.leaf_list.specs.Register.{keyAt, inUse, herdOf, countInUse}
+use Rattle.leaf_list.specs.Register.{keyAt, inUse, herdOf}
 use Rattle.leaf_list.proofs.Check.{herdOf-narrow}
 use Rattle.leaf_list.proofs.FittingHerds.{AllInUse}
 use Rattle.leaf_list.proofs.Laws.{liveRecords-law}
 use Rattle.leaf_list.proofs.RegisterHerd.{herdOf-is, length-herdFrom}
 use Rattle.page_tree.specs.Tree.{Tree, depth, leavesOf, SoundTree, RootRule, pagesOf as treePages}
-use Rattle.index_table.specs.Layout.{Layout, layoutOf, pageStart, Within}
+use Rattle.index_table.specs.Layout.{Layout, layoutOf, Within}
 use Rattle.index_table.specs.Header.{widthOf, entriesOf, pagesOf, rootOf, heldOf}
-use Rattle.index_table.specs.Pages.{Pages, pagesAt, treeAt, rootRef, met, usedPages, inUse as pageInUse}
-use Rattle.index_table.specs.Soundness.{SizedPage, Sound, rootLevel, leafEntries}
+use Rattle.index_table.specs.Pages.{Pages, pagesAt, treeAt, rootRef, usedPages}
+use Rattle.index_table.specs.Soundness.{SizedPage, Sound, rootLevel}
 use Rattle.index_table.proofs.PageBytes.{within-table}
 use Rattle.index_table.proofs.SoundNodes.{sound-tree, tree-root-rule, tree-depth}
 use Rattle.index_table.proofs.UsedPages.{used-tree}

@@ -1,11 +1,10 @@
 -- The parts that the check asks one after the other make the tables sound, and sound tables have them. Assumes nothing.
-use mathlib.Core.Path.{_≡_, refl, sym, ap, subst, _∙_}
+use mathlib.Core.Path.{_≡_, refl, sym, subst, _∙_}
 use mathlib.Core.Logic.{_↔_}
 use mathlib.Core.Bool.{Bool, true, false, true≢false}
 use mathlib.Core.List.{List}
-use Prim.Native.Nat.{ℕ, suc, _+_, _*_, _^_, _≤_, _<_}
-use native.Mathlib.Omega.{arith}
-use lib.Dec.{eqb, ltb}
+use Prim.Native.Nat.{ℕ, _^_, _<_}
+use lib.Dec.{ltb}
 use lib.ListN.{length, getD}
 use borrow.Author.Tests.{eqb-true, eq-eqb, ltb-true, ltb-false}
 use Rattle.leaf_list.specs.Herd.{Sorted}
@@ -13,13 +12,11 @@ use Rattle.leaf_list.specs.LeafList.{leafList}
 use Rattle.leaf_list.specs.Register.{keyAt, inUse, herdOf, countInUse}
 use Rattle.leaf_list.specs.Conditions.{start, run, passes}
 use Rattle.leaf_list.proofs.Check.{check-law}
-use Rattle.leaf_list.proofs.RegisterChange.{DistinctKeys, herdOf-sorted}
-use Rattle.index_table.specs.Layout.{layoutOf, pageStart}
+use Rattle.leaf_list.proofs.RegisterChange.{herdOf-sorted}
 use Rattle.index_table.specs.Header.{widthOf, entriesOf, pagesOf, rootOf, heldOf}
 use Rattle.index_table.specs.IndexNumbers.{IndexOf}
-use Rattle.index_table.specs.Soundness.{Limits, Sound, SoundRegister, leafEntries}
+use Rattle.index_table.specs.Soundness.{Sound, leafEntries}
 use Rattle.index_table.specs.declared.header.Index.{Index}
-use Rattle.table_check.specs.Walks.{NarrowRegister}
 use Rattle.table_check.specs.Scans.{SoundRecords, HeaderFits}
 use Rattle.table_check.specs.Trees.{TreePre, PagesSound}
 use Rattle.table_check.proofs.EntryTests.{beyond-free}

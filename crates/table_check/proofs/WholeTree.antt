@@ -1,32 +1,31 @@
 -- The whole tree from the root: what the walk and the marks say of it. Assumes nothing.
 use mathlib.Core.Path.{_≡_, refl, sym, ap, subst, _∙_}
 use mathlib.Core.Logic.{_↔_, _⊎_, inl, inr}
-use mathlib.Core.Bool.{Bool, true, false, _&&_, true≢false}
+use mathlib.Core.Bool.{Bool, true, false, _&&_}
 use mathlib.Core.List.{List, [], _∷_}
-use Prim.Native.Nat.{ℕ, zero, suc, _+_, _≤_, _<_, min}
+use Prim.Native.Nat.{ℕ, zero, suc, _≤_, _<_}
 use native.Mathlib.Omega.{arith}
 use lib.Dec.{eqb, ltb, leb}
 use lib.Pow.{pow-pos}
 use lib.ListN.{length, getD, replicate}
 use borrow.Author.Tests.{eqb-true, eqb-false, eq-eqb, ltb-true, ltb-false, leb-true, le-leb}
 use Rattle.leaf_list.specs.Register.{keyAt, inUse}
-use Rattle.leaf_list.specs.Conditions.{State, start, run, passes}
+use Rattle.leaf_list.specs.Conditions.{State, start, run}
 use Rattle.leaf_list.proofs.CheckTests.{and-left, and-right, and-both}
 use Rattle.page_tree.specs.Rows.{All}
-use Rattle.index_table.specs.Layout.{Layout, Ref, layoutOf, pageStart, pageSize, pageBytes, countOf}
+use Rattle.index_table.specs.Layout.{Layout, Ref, layoutOf, pageStart, pageBytes, countOf}
 use Rattle.index_table.specs.Pages.{pagesAt, rootRef, same, met, metAll, inUse as pageInUse}
-use Rattle.index_table.specs.Soundness.{SizedPage, SoundBelow, SoundPages}
+use Rattle.index_table.specs.Soundness.{SoundBelow}
 use Rattle.index_table.specs.declared.header.Index.{Index}
 use Rattle.index_table.proofs.PageBytes.{pages-apart}
 use Rattle.index_table.proofs.PageCounts.{same-cases}
 use Rattle.index_table.proofs.PageRows.{length-refs}
 use Rattle.index_table.proofs.Frames.{refs-beyond}
-use Rattle.table_check.specs.Walks.{stateOf, Carried, Passing, rowsOf, leavesBelow, EntrySound, WalkPre, Walked}
+use Rattle.table_check.specs.Walks.{Passing, rowsOf, leavesBelow, EntrySound, WalkPre, Walked}
 use Rattle.table_check.specs.Scans.{PageCleared}
-use Rattle.table_check.specs.Trees.{TreePre, TreeSound, PagesSound, LeavesPass, levelOfRoot}
+use Rattle.table_check.specs.Trees.{TreePre, TreeSound, PagesSound, levelOfRoot}
 use Rattle.table_check.specs.declared.entries.Scan.{Scan}
 use Rattle.table_check.specs.declared.entries.Checked.{Checked}
-use Rattle.table_check.proofs.Iff.{said-no}
 
 -- ---- the pages met below a sound entry
 

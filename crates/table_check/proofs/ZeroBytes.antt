@@ -1,16 +1,14 @@
 -- Bytes that are all zero, in a part of the table and in a page. Assumes nothing.
-use mathlib.Core.Path.{_≡_, refl, sym, ap, _∙_}
+use mathlib.Core.Path.{_≡_, sym, ap, _∙_}
 use mathlib.Core.Logic.{_↔_}
 use mathlib.Core.List.{List, [], _∷_}
-use Prim.Native.Nat.{ℕ, zero, suc, _+_, _*_, _-_, _≤_, _<_, min}
+use Prim.Native.Nat.{ℕ, zero, suc, _+_, _*_, _-_, _≤_, _<_}
 use native.Mathlib.Omega.{arith}
 use lib.ListN.{length, getD, take, drop, length-take, length-drop}
 use lib.Seq.{getD-take, getD-drop}
 use Rattle.index_table.specs.Bytes.{AllZero}
-use Rattle.index_table.specs.Layout.{Layout, pageSize, pageStart, Within, pageBytes, countOf, layoutOf, entrySize}
+use Rattle.index_table.specs.Layout.{Layout, pageSize, pageStart, Within, pageBytes, countOf, layoutOf}
 use Rattle.index_table.specs.Header.{spareOf}
-use Rattle.index_table.specs.Pages.{inUse}
-use Rattle.index_table.specs.Soundness.{Cleared}
 use Rattle.index_table.specs.declared.header.Index.{Index}
 use Rattle.index_table.proofs.PageRows.{length-refs}
 use Rattle.table_check.specs.Walks.{rowsOf}

@@ -3,7 +3,6 @@ ghost use mathlib.Core.Path.{_≡_};
 ghost use mathlib.Core.Bool.{true};
 ghost use mathlib.Core.Logic.{_↔_};
 ghost use Prim.Native.Nat.{_≤_};
-ghost use lib.ListN.{length};
 ghost use Rattle.index_table.specs.Soundness.{Limits};
 ghost use Rattle.table_check.specs.Scans.{HeaderFits};
 use crate::numbers::wide;

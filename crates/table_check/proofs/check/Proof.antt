@@ -9,56 +9,37 @@ use Rattle.table_check.proofs.Verdict.{sound-header, unsound-records, u
 use borrow.Author.Needs.{needs}
 use Rattle.table_check.proofs.check.Statement.{statement}
 use Rattle.table_check.proofs.check.Tie as tie
-use Rattle.table_check.proofs.check.Reads as reads
-use Rattle.table_check.proofs.check.Lts as lts
-use Rattle.index_table.proofs.header.read.Reads as read-reads
-use Rattle.table_check.proofs.header.header_fits.Reads as header-fits-reads
-use Rattle.table_check.proofs.numbers.wide.Reads as wide-reads
-use Rattle.table_check.proofs.numbers.wide16.Reads as wide16-reads
-use Rattle.table_check.proofs.register.tally_records.Reads as tally-records-reads
-use Rattle.table_check.proofs.root.pages_sound.Reads as pages-sound-reads
 
--- src/lib.rt:24:9
 returns : tie.Need-returns
 returns c = iff-no (λ s. c .if1 .taken (s .lengths .register))
 
--- src/lib.rt:26:9
 header-fits-requires : tie.Need-header-fits-requires
 header-fits-requires c κs = search needs
 
--- src/lib.rt:27:9
 returns-2 : tie.Need-returns-2
 returns-2 c = iff-no (λ s. said-no (c .before .header-fits .ensures) (not-true _ (c .if2 .taken)) (sound-header _ _ _ s))
 
--- src/lib.rt:29:9
 read-requires : tie.Need-read-requires
 read-requires c κs = omega (arith, c .before .header-fits .ensures .0 (not-false _ (c .if2 .left)) .table)
 
--- src/lib.rt:30:37
 wide-requires : tie.Need-wide-requires
 wide-requires c κs = search needs
 
--- src/lib.rt:30:9
 tally-records-requires : tie.Need-tally-records-requires
 tally-records-requires c κs = let f = c .before .before .before .header-fits .ensures .0 (not-false _ (c .before .before .if2 .left)) in (omega (arith, f .limits .width-high, c .wide .ensures .0, c .before .read .ensures .width), omega (arith, c .before .before .before .before .if1 .left), f .limits .records-high)
 
--- src/lib.rt:32:9
 returns-3 : tie.Need-returns-3
 returns-3 c = iff-no (unsound-records _ _ _ (c .before .before .before .wide .ensures .0 ∙ c .before .before .before .before .read .ensures .width) (said-no (c .before .before .tally-records .ensures .fits) (not-true _ (c .if3 .taken))))
 
--- src/lib.rt:34:18
 wide16-requires : tie.Need-wide16-requires
 wide16-requires c κs = search needs
 
--- src/lib.rt:35:9
 returns-4 : tie.Need-returns-4
 returns-4 c = iff-no (unsound-held _ _ _ (c .before .before .wide16 .ensures .0 ∙ c .before .before .before .before .before .before .before .read .ensures .held) (λ e. c .if4 .taken (c .before .before .before .before .before .tally-records .ensures .held (not-false _ (c .before .before .before .if3 .left)) ∙ e)))
 
--- src/lib.rt:37:5
 pages-sound-requires : tie.Need-pages-sound-requires
 pages-sound-requires c κs = tree-pre _ _ _ (c .before .before .before .before .before .before .before .before .before .before .if1 .left) (c .before .before .before .before .before .before .before .before .before .header-fits .ensures .0 (not-false _ (c .before .before .before .before .before .before .before .before .if2 .left))) (subst (λ (w : ℕ). SoundRecords w (c .before .before .before .before .before .before .before .before .before .before .before .before .before .before .args .keys .now) (c .before .before .before .before .before .before .before .before .before .before .before .before .before .before .args .used .now)) (c .before .before .before .before .before .before .wide .ensures .0 ∙ c .before .before .before .before .before .before .before .read .ensures .width) (c .before .before .before .before .before .tally-records .ensures .fits .0 (not-false _ (c .before .before .before .if3 .left)))) _ (c .before .before .before .before .before .before .before .read .ensures)
 
--- src/lib.rt:20:1
 returns-5 : tie.Need-returns-5
 returns-5 c = iff-trans (c .pages-sound .ensures) (sound-pages _ _ _ (c .before .before .before .before .before .before .before .before .before .before .before .if1 .left) (c .before .before .before .before .before .before .before .before .before .before .header-fits .ensures .0 (not-false _ (c .before .before .before .before .before .before .before .before .before .if2 .left))) (subst (λ (w : ℕ). SoundRecords w (c .before .before .before .before .before .before .before .before .before .before .before .before .before .before .before .args .keys .now) (c .before .before .before .before .before .before .before .before .before .before .before .before .before .before .before .args .used .now)) (c .before .before .before .before .before .before .before .wide .ensures .0 ∙ c .before .before .before .before .before .before .before .before .read .ensures .width) (c .before .before .before .before .before .before .tally-records .ensures .fits .0 (not-false _ (c .before .before .before .before .if3 .left)))) _ (c .before .before .before .before .before .before .before .before .read .ensures) (sym (c .before .if4 .left ∙ c .before .before .before .wide16 .ensures .0) ∙ c .before .before .before .before .before .before .tally-records .ensures .held (not-false _ (c .before .before .before .before .if3 .left))))
 

@@ -1,5 +1,4 @@
 -- Every page passed is as its mark says. Assumes nothing.
-use mathlib.Core.Path.{_≡_, refl, sym, ap, _∙_}
 use Prim.Native.Nat.{ℕ, _≤_, _<_, _-_}
 use native.Mathlib.Omega.{arith}
 use lib.ListN.{getD}
@@ -12,10 +11,6 @@ use Rattle.table_check.proofs.Iff.{iff-no, iff-yes, said-no}
 use borrow.Author.Needs.{needs}
 use Rattle.table_check.proofs.cleared.all_cleared.Statement.{statement}
 use Rattle.table_check.proofs.cleared.all_cleared.Tie as tie
-use Rattle.table_check.proofs.cleared.all_cleared.Reads as reads
-use Rattle.table_check.proofs.cleared.all_cleared.Lts as lts
-use Rattle.index_table.proofs.layout.wide16.Reads as wide16-reads
-use Rattle.table_check.proofs.cleared.page_cleared.Reads as page-cleared-reads
 
 abbrev Inv-loop : tie.InvT-loop
 Inv-loop index map h page₀ page = (page ≤ h .pages) × ((q : ℕ) → q < page → PageCleared h index q (getD map q 0))
@@ -23,39 +18,30 @@ Inv-loop index map h page₀ page = (page ≤ h .pages) × ((q : ℕ) → q < pa
 abbrev μ-loop : tie.MeasureT-loop
 μ-loop index map h page₀ page = h .pages - page
 
--- src/cleared.rt:41:5
 loop-holds : tie.Need-loop-holds Inv-loop μ-loop
 loop-holds c = (omega arith, λ q l. absurd (omega arith))
 
--- src/cleared.rt:42:54
 wide16-requires : tie.Need-wide16-requires Inv-loop μ-loop
 wide16-requires c κs = search needs
 
--- src/cleared.rt:42:50
 shared-slice-read-page-cleared : tie.Need-shared-slice-read-page-cleared Inv-loop μ-loop
 shared-slice-read-page-cleared c = omega (arith, c .before .wide16 .ensures .0, c .before .before .before .before .before .before .before .pre .1)
 
--- src/cleared.rt:42:13
 page-cleared-requires : tie.Need-page-cleared-requires Inv-loop μ-loop
 page-cleared-requires c κs = let a = c .before .before .before .before .before .before .before in rw (c .before .wide16 .ensures .0) (within-table (layoutOf (a .args .h .entries)) _ _ (a .args .index .now) (a .pre .0) (c .before .before .if1 .taken), a .pre .2 _, a .pre .3 _)
 
--- src/cleared.rt:43:13
 returns : tie.Need-returns Inv-loop μ-loop
 returns c = iff-no (λ f. said-no (c .before .page-cleared .ensures) (not-true _ (c .if2 .taken)) (rw (c .before .before .before .wide16 .ensures .0) (f _ (c .before .before .before .before .if1 .taken))))
 
--- src/cleared.rt:45:9
 add-page : tie.Need-add-page Inv-loop μ-loop
 add-page c = search needs
 
--- src/cleared.rt:41:5
 loop-less : tie.Need-loop-less Inv-loop μ-loop
 loop-less c = search needs
 
--- src/cleared.rt:41:5
 loop-again : tie.Need-loop-again Inv-loop μ-loop
 loop-again c = (omega arith, below-more _ _ (c .before .before .before .before .before .before .loop .inv .1) (rw (c .before .before .before .wide16 .ensures .0) at (c .before .page-cleared .ensures .0 (not-false _ (c .if2 .left)))))
 
--- src/cleared.rt:36:1
 returns-2 : tie.Need-returns-2 Inv-loop μ-loop
 returns-2 c = iff-yes (λ q l. c .before .before .loop .inv .1 q (omega arith))
 

@@ -1,44 +1,33 @@
 -- One entry, test by test. Assumes nothing.
-use mathlib.Core.Path.{_≡_, refl, sym, ap, _∙_}
+use mathlib.Core.Path.{_≡_, _∙_}
 use mathlib.Core.Logic.{⊎-elim}
-use mathlib.Core.Bool.{Bool, true, false, not, _||_, or-true}
+use mathlib.Core.Bool.{true, not, _||_, or-true}
 use lib.Dec.{eqb}
 use borrow.Author.Tests.{lt-leb, le-leb, eq-eqb, ne-eqb, le-ltb, lt-ltb}
-use native.Mathlib.Omega.{arith}
 use Rattle.leaf_list.specs.Keys.{bitAt}
 use borrow.Author.Needs.{needs}
 use Rattle.table_check.proofs.entries.entry_fits.Statement.{statement}
 use Rattle.table_check.proofs.entries.entry_fits.Tie as tie
-use Rattle.table_check.proofs.entries.entry_fits.Reads as reads
-use Rattle.table_check.proofs.entries.entry_fits.Lts as lts
-use Rattle.leaf_list.proofs.bit_is_set.Reads as bit-is-set-reads
-use Rattle.table_check.proofs.entries.pointer_fits.Reads as pointer-fits-reads
 
 -- The bit is clear, or there is none.
 clear : (c : tie.Joined2) → (eqb (c .before .before .before .before .args .d) 0 || not (bitAt (c .before .before .before .before .args .w) (c .before .before .before .before .args .d) (c .before .before .before .before .args .s .disc))) ≡ true
 clear c = ⊎-elim (λ x. rw (← x .1 .ensures, x .2 .left, or-true)) (λ x. rw (eq-eqb _ 0 (x .left))) (c .if2 .came)
 
--- src/entries.rt:56:9
 returns : tie.Need-returns
 returns c = rw (lt-leb _ _ (c .if1 .taken))
 
--- src/entries.rt:59:12
 bit-is-set-requires : tie.Need-bit-is-set-requires
 bit-is-set-requires c κs = search needs
 
--- src/entries.rt:60:13
 returns-2 : tie.Need-returns-2
 returns-2 c = rw (le-leb _ _ (c .before .before .before .if1 .left), ne-eqb _ 0 (c .before .before .if2 .taken), ← c .before .bit-is-set .ensures, c .if3 .taken)
 
--- src/entries.rt:65:13
 returns-3 : tie.Need-returns-3
 returns-3 c = rw (le-leb _ _ (c .before .before .before .before .if1 .left), clear (c .before .before .before), c .before .before .if4 .taken, le-ltb _ _ (c .if5 .taken))
 
--- src/entries.rt:68:5
 pointer-fits-requires : tie.Need-pointer-fits-requires
 pointer-fits-requires c κs = search needs
 
--- src/entries.rt:51:1
 returns-4 : tie.Need-returns-4
 returns-4 c = c .pointer-fits .ensures ∙ rw (le-leb _ _ (c .before .before .before .if1 .left), clear (c .before .before)) (⊎-elim (λ x. rw (x .0 .taken, lt-ltb _ _ (x .2 .left))) (λ x. rw (x .left)) (c .before .if4 .came))
 

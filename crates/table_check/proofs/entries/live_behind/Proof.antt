@@ -4,18 +4,13 @@ use native.Mathlib.Numerals.{add-one}
 use borrow.Author.Needs.{needs}
 use Rattle.table_check.proofs.entries.live_behind.Statement.{statement}
 use Rattle.table_check.proofs.entries.live_behind.Tie as tie
-use Rattle.table_check.proofs.entries.live_behind.Reads as reads
-use Rattle.table_check.proofs.entries.live_behind.Lts as lts
 
--- src/entries.rt:87:9
 returns : tie.Need-returns
 returns c = rw (eq-eqb _ 65535 (c .if1 .taken))
 
--- src/entries.rt:89:5
 add-result : tie.Need-add-result
 add-result c = search needs
 
--- src/entries.rt:82:1
 returns-2 : tie.Need-returns-2
 returns-2 c = rw (ne-eqb _ 65535 (c .if1 .left)) (add-one _)
 

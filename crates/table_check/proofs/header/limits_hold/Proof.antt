@@ -6,53 +6,37 @@ use Rattle.table_check.proofs.Iff.{iff-no, said-no}
 use borrow.Author.Needs.{needs}
 use Rattle.table_check.proofs.header.limits_hold.Statement.{statement}
 use Rattle.table_check.proofs.header.limits_hold.Tie as tie
-use Rattle.table_check.proofs.header.limits_hold.Reads as reads
-use Rattle.table_check.proofs.header.limits_hold.Lts as lts
-use Rattle.table_check.proofs.header.between.Reads as between-reads
-use Rattle.table_check.proofs.numbers.wide.Reads as wide-reads
-use Rattle.table_check.proofs.numbers.wide16.Reads as wide16-reads
 
--- src/header.rt:27:17
 wide-requires : tie.Need-wide-requires
 wide-requires c κs = search needs
 
--- src/header.rt:27:9
 between-requires : tie.Need-between-requires
 between-requires c κs = search needs
 
--- src/header.rt:28:9
 returns : tie.Need-returns
 returns c = iff-no (λ l. said-no (c .before .between .ensures) (not-true _ (c .if1 .taken)) (omega (arith, l, c .before .before .wide .ensures .0)))
 
--- src/header.rt:30:17
 wide-requires-2 : tie.Need-wide-requires-2
 wide-requires-2 c κs = search needs
 
--- src/header.rt:30:9
 between-requires-2 : tie.Need-between-requires-2
 between-requires-2 c κs = search needs
 
--- src/header.rt:31:9
 returns-2 : tie.Need-returns-2
 returns-2 c = iff-no (λ l. said-no (c .before .between2 .ensures) (not-true _ (c .if2 .taken)) (omega (arith, l, c .before .before .wide2 .ensures .0)))
 
--- src/header.rt:33:17
 wide16-requires : tie.Need-wide16-requires
 wide16-requires c κs = search needs
 
--- src/header.rt:33:9
 between-requires-3 : tie.Need-between-requires-3
 between-requires-3 c κs = search needs
 
--- src/header.rt:34:9
 returns-3 : tie.Need-returns-3
 returns-3 c = iff-no (λ l. said-no (c .before .between3 .ensures) (not-true _ (c .if3 .taken)) (omega (arith, l, c .before .before .wide16 .ensures .0)))
 
--- src/header.rt:37:9
 returns-4 : tie.Need-returns-4
 returns-4 c = iff-no (λ l. omega (arith, l .records-low, c .if4 .taken))
 
--- src/header.rt:24:1
 returns-5 : tie.Need-returns-5
 returns-5 c = limits-all (c .before .before .before .before .before .before .before .before .before .wide .ensures .0) (c .before .before .before .before .before .before .wide2 .ensures .0) (c .before .before .before .wide16 .ensures .0) (c .before .before .before .before .before .before .before .before .between .ensures .0 (not-false _ (c .before .before .before .before .before .before .before .if1 .left))) (c .before .before .before .before .before .between2 .ensures .0 (not-false _ (c .before .before .before .before .if2 .left))) (c .before .before .between3 .ensures .0 (not-false _ (c .before .if3 .left))) (c .if4 .left)
 

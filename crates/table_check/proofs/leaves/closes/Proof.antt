@@ -1,15 +1,10 @@
 -- The last depth and the others. Assumes nothing.
-use borrow.Author.Needs.{needs}
 use Rattle.table_check.proofs.leaves.closes.Statement.{statement}
 use Rattle.table_check.proofs.leaves.closes.Tie as tie
-use Rattle.table_check.proofs.leaves.closes.Reads as reads
-use Rattle.table_check.proofs.leaves.closes.Lts as lts
 
--- src/leaves.rt:30:9
 returns : tie.Need-returns
 returns c = rw (c .if1 .taken)
 
--- src/leaves.rt:26:1
 returns-2 : tie.Need-returns-2
 returns-2 c = rw (c .if1 .left)
 

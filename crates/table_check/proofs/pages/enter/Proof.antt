@@ -1,5 +1,4 @@
 -- A page that is sized and not marked is marked. Assumes nothing.
-use mathlib.Core.Path.{_≡_, refl, sym, ap, _∙_}
 use native.Mathlib.Omega.{arith}
 use borrow.Author.Tests.{not-true, not-false}
 use Rattle.table_check.proofs.Iff.{said-no}
@@ -7,40 +6,28 @@ use Rattle.table_check.proofs.MetPages.{entered-no, entered-yes}
 use borrow.Author.Needs.{needs}
 use Rattle.table_check.proofs.pages.enter.Statement.{statement}
 use Rattle.table_check.proofs.pages.enter.Tie as tie
-use Rattle.table_check.proofs.pages.enter.Reads as reads
-use Rattle.table_check.proofs.pages.enter.Lts as lts
-use Rattle.index_table.proofs.layout.wide16.Reads as wide16-reads
-use Rattle.table_check.proofs.pages.sized.Reads as sized-reads
 
--- src/pages.rt:38:9
 sized-requires : tie.Need-sized-requires
 sized-requires c κs = search needs
 
--- src/pages.rt:39:9
 returns : tie.Need-returns
 returns c = entered-no _ _ _ _ _ _ (λ s z. said-no (c .before .sized .ensures) (not-true _ (c .if1 .taken)) s)
 
--- src/pages.rt:41:9
 wide16-requires : tie.Need-wide16-requires
 wide16-requires c κs = search needs
 
--- src/pages.rt:42:8
 slice-read-if2 : tie.Need-slice-read-if2
 slice-read-if2 c = let s = c .before .before .before .sized .ensures .0 (not-false _ (c .before .before .if1 .left)) in omega (arith, c .before .wide16 .ensures .0, c .before .before .before .before .before .before .pre .1, s .number)
 
--- src/pages.rt:43:9
 returns-2 : tie.Need-returns-2
 returns-2 c = entered-no _ _ _ _ _ _ (λ s z. c .if2 .taken (rw (c .before .before .wide16 .ensures .0) z))
 
--- src/pages.rt:45:5
 slice-write-map : tie.Need-slice-write-map
 slice-write-map c = let s = c .before .before .before .before .sized .ensures .0 (not-false _ (c .before .before .before .if1 .left)) in omega (arith, c .before .before .wide16 .ensures .0, c .before .before .before .before .before .before .before .pre .1, s .number)
 
--- src/pages.rt:34:1
 same-length : tie.Need-same-length
 same-length c = search needs
 
--- src/pages.rt:34:1
 returns-3 : tie.Need-returns-3
 returns-3 c = rw (c .before .before .wide16 .ensures .0) (entered-yes _ _ _ _ _ (c .before .before .before .before .sized .ensures .0 (not-false _ (c .before .before .before .if1 .left))) (rw (c .before .before .wide16 .ensures .0) at (c .if2 .left)))
 

@@ -1,39 +1,28 @@
 -- The page's number, level and count, test by test. Assumes nothing.
-use mathlib.Core.Path.{_≡_, refl, sym, ap, _∙_}
+use mathlib.Core.Path.{sym, _∙_}
 use native.Mathlib.Omega.{arith}
 use Rattle.index_table.specs.Layout.{layoutOf}
 use Rattle.index_table.proofs.PageBytes.{within-table}
 use Rattle.table_check.proofs.Iff.{iff-no}
 use Rattle.table_check.proofs.MetPages.{sized-empty, sized-few}
-use borrow.Author.Needs.{needs}
 use Rattle.table_check.proofs.pages.sized.Statement.{statement}
 use Rattle.table_check.proofs.pages.sized.Tie as tie
-use Rattle.table_check.proofs.pages.sized.Reads as reads
-use Rattle.table_check.proofs.pages.sized.Lts as lts
-use Rattle.index_table.proofs.layout.count.Reads as count-reads
-use Rattle.index_table.proofs.layout.level.Reads as level-reads
 
--- src/pages.rt:21:9
 returns : tie.Need-returns
 returns c = iff-no (λ s. omega (arith, s .number))
 
--- src/pages.rt:23:8
 level-requires : tie.Need-level-requires
 level-requires c κs = within-table (layoutOf (c .before .before .before .before .args .h .entries)) _ _ (c .before .before .before .before .args .index .now) (c .before .before .before .before .pre) (omega arith)
 
--- src/pages.rt:24:9
 returns-2 : tie.Need-returns-2
 returns-2 c = iff-no (λ s. c .if2 .taken (c .before .level .ensures ∙ s .level))
 
--- src/pages.rt:26:9
 count-requires : tie.Need-count-requires
 count-requires c κs = within-table (layoutOf (c .before .before .before .before .before .before .args .h .entries)) _ _ (c .before .before .before .before .before .before .args .index .now) (c .before .before .before .before .before .before .pre) (omega arith)
 
--- src/pages.rt:28:9
 returns-3 : tie.Need-returns-3
 returns-3 c = iff-no (sized-empty (c .before .before .before .before .before .before .before .before .args .h) _ _ _ _ (c .before .count .ensures) (c .if3 .taken))
 
--- src/pages.rt:16:1
 returns-4 : tie.Need-returns-4
 returns-4 c = sized-few (c .before .before .before .before .before .before .before .before .before .args .h) _ _ _ _ (omega arith) (sym (c .before .before .before .before .level .ensures) ∙ c .before .before .before .if2 .left) (c .before .before .count .ensures) (c .before .if3 .left)
 

@@ -1,17 +1,12 @@
 use borrow.Author.Needs.{needs}
 use borrow.Author.Tests.{leb-true, leb-false}
 use mathlib.Core.Path.{sym, _∙_}
-use Prim.Native.Nat.{ℕ, _≤_, _-_}
+use Prim.Native.Nat.{_≤_, _-_}
 use native.Mathlib.Omega.{arith}
 use lib.ListN.{length}
 use Rattle.table_check.proofs.Gathered.{Gathered, gathered-none, gathered-more, gathered-sound, tallied-no, tallied-wide, tallied-yes}
 use Rattle.table_check.proofs.register.tally_records.Statement.{statement}
 use Rattle.table_check.proofs.register.tally_records.Tie as tie
-use Rattle.table_check.proofs.register.tally_records.Reads as reads
-use Rattle.table_check.proofs.register.tally_records.Lts as lts
-use Rattle.leaf_list.proofs.too_wide.Reads as too-wide-reads
-use Rattle.std.proofs.num.wrapping_sub_u64.Reads as wrapping-sub-u64-reads
-use Rattle.table_check.proofs.numbers.wide.Reads as wide-reads
 
 abbrev Inv-loop : tie.InvT-loop
 Inv-loop w keys used keys-or₀ odd₀ held₀ i₀ keys-or odd held i = (i ≤ length used) × Gathered keys used keys-or odd held i

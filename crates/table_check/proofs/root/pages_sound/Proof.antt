@@ -1,5 +1,4 @@
 -- The root's number, level and entries, and then the tree. Assumes nothing.
-use mathlib.Core.Path.{sym, _∙_}
 use native.Mathlib.Omega.{arith}
 use borrow.Author.Tests.{not-true, not-false}
 use Rattle.index_table.specs.Layout.{layoutOf}
@@ -9,33 +8,22 @@ use Rattle.table_check.proofs.WholeTree.{root-beyond, root-refused, roo
 use borrow.Author.Needs.{needs}
 use Rattle.table_check.proofs.root.pages_sound.Statement.{statement}
 use Rattle.table_check.proofs.root.pages_sound.Tie as tie
-use Rattle.table_check.proofs.root.pages_sound.Reads as reads
-use Rattle.table_check.proofs.root.pages_sound.Lts as lts
-use Rattle.index_table.proofs.layout.level.Reads as level-reads
-use Rattle.table_check.proofs.root.root_fits.Reads as root-fits-reads
-use Rattle.table_check.proofs.root.tree_sound.Reads as tree-sound-reads
 
--- src/root.rt:73:9
 returns : tie.Need-returns
 returns c = iff-no (root-beyond _ _ _ _ (c .if1 .taken))
 
--- src/root.rt:75:9
 level-requires : tie.Need-level-requires
 level-requires c κs = let a = c .before .before .before .before .before .before .before in within-table (layoutOf (a .args .h .entries)) _ _ (a .args .index .now) (omega (arith, a .pre .table)) (c .if1 .left)
 
--- src/root.rt:76:9
 root-fits-requires : tie.Need-root-fits-requires
 root-fits-requires c κs = let a = c .before .before .before .before .before .before .before .before in within-table (layoutOf (a .args .h .entries)) _ _ (a .args .index .now) (omega (arith, a .pre .table)) (c .before .if1 .left)
 
--- src/root.rt:77:9
 returns-2 : tie.Need-returns-2
 returns-2 c = iff-no (root-refused _ _ _ _ _ (c .before .before .level .ensures) (said-no (c .before .root-fits .ensures) (not-true _ (c .if2 .taken))))
 
--- src/root.rt:79:5
 tree-sound-requires : tie.Need-tree-sound-requires
 tree-sound-requires c κs = search needs
 
--- src/root.rt:67:1
 returns-3 : tie.Need-returns-3
 returns-3 c = iff-trans (c .tree-sound .ensures) (root-sound _ _ _ _ _ (c .before .before .before .level .ensures) (c .before .before .root-fits .ensures .0 (not-false _ (c .before .if2 .left))))
 

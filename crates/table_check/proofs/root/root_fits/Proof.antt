@@ -1,31 +1,20 @@
 -- The root's level and its entries. Assumes nothing.
-use mathlib.Core.Path.{sym, _∙_}
 use native.Mathlib.Omega.{arith}
-use borrow.Author.Tests.{leb-true, le-leb}
-use Rattle.index_table.specs.Layout.{layoutOf, pageBytes}
-use Rattle.index_table.proofs.PageRows.{length-refs}
 use Rattle.table_check.proofs.Iff.{iff-no}
 use Rattle.table_check.proofs.WholeTree.{root-entries}
 use borrow.Author.Needs.{needs}
 use Rattle.table_check.proofs.root.root_fits.Statement.{statement}
 use Rattle.table_check.proofs.root.root_fits.Tie as tie
-use Rattle.table_check.proofs.root.root_fits.Reads as reads
-use Rattle.table_check.proofs.root.root_fits.Lts as lts
-use Rattle.index_table.proofs.layout.count.Reads as count-reads
 
--- src/root.rt:21:9
 returns : tie.Need-returns
 returns c = iff-no (λ f. omega (arith, f .0))
 
--- src/root.rt:24:9
 returns-2 : tie.Need-returns-2
 returns-2 c = search needs
 
--- src/root.rt:27:5
 count-requires : tie.Need-count-requires
 count-requires c κs = search needs
 
--- src/root.rt:16:1
 returns-3 : tie.Need-returns-3
 returns-3 c = root-entries (c .before .before .before .before .before .args .h) (c .before .before .before .before .before .args .index .now) _ _ (c .before .before .before .if1 .left) (c .before .before .if2 .left) (c .count .ensures)
 

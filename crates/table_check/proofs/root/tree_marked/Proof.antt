@@ -8,53 +8,37 @@ use Rattle.table_check.proofs.WholeTree.{walk-start, tree-walked, tree-
 use borrow.Author.Needs.{needs}
 use Rattle.table_check.proofs.root.tree_marked.Statement.{statement}
 use Rattle.table_check.proofs.root.tree_marked.Tie as tie
-use Rattle.table_check.proofs.root.tree_marked.Reads as reads
-use Rattle.table_check.proofs.root.tree_marked.Lts as lts
-use Rattle.table_check.proofs.cleared.all_cleared.Reads as all-cleared-reads
-use Rattle.table_check.proofs.numbers.wide16.Reads as wide16-reads
-use Rattle.table_check.proofs.pages.page_ok.Reads as page-ok-reads
 
--- src/root.rt:43:9
 page-ok-requires : tie.Need-page-ok-requires
 page-ok-requires c κs = walk-start _ _ _ _ _ (c .before .before .before .before .before .before .pre .0) (c .before .before .before .before .before .before .pre .1) (c .before .before .before .before .before .before .pre .2)
 
--- src/root.rt:45:9
 same-length : tie.Need-same-length
 same-length c = search needs
 
--- src/root.rt:45:9
 returns : tie.Need-returns
 returns c = iff-no (λ t. true≢false (sym (tree-walked _ _ _ _ _ _ _ _ (c .before .before .before .before .before .before .before .before .before .before .before .pre .2) (c .before .before .before .before .page-ok .ensures) t) ∙ not-true _ (c .if1 .taken)))
 
--- src/root.rt:49:9
 same-length-2 : tie.Need-same-length-2
 same-length-2 c = search needs
 
--- src/root.rt:49:9
 returns-2 : tie.Need-returns-2
 returns-2 c = iff-no (λ t. true≢false (sym (tree-closed _ _ _ _ _ _ _ _ (c .before .before .before .before .before .before .before .before .before .before .before .before .before .before .pre .2) (c .before .before .before .before .before .before .before .page-ok .ensures) (not-false _ (c .before .before .before .if1 .left)) t) ∙ not-true _ (c .if2 .taken)))
 
--- src/root.rt:51:21
 wide16-requires : tie.Need-wide16-requires
 wide16-requires c κs = search needs
 
--- src/root.rt:52:9
 same-length-3 : tie.Need-same-length-3
 same-length-3 c = search needs
 
--- src/root.rt:52:9
 returns-3 : tie.Need-returns-3
 returns-3 c = iff-no (λ t. c .if3 .taken (tree-live _ _ _ _ _ _ _ _ (c .before .before .before .before .before .before .before .before .before .before .before .before .before .before .before .before .before .pre .2) (c .before .before .before .before .before .before .before .before .before .before .page-ok .ensures) (not-false _ (c .before .before .before .before .before .before .if1 .left)) t ∙ sym (c .before .before .wide16 .ensures .0)))
 
--- src/root.rt:54:5
 all-cleared-requires : tie.Need-all-cleared-requires
 all-cleared-requires c κs = let a = c .before .before .before .before .before .before .before .before .before .before .before .before .before .before .before .before .before .before in (omega (arith, a .pre .0 .table), omega (arith, a .pre .1, c .before .before .before .before .before .before .before .before .before .before .before .page-ok .kept .1 .1 .1 .0), marks-small _ _ _ _ _ _ _ _ (a .pre .2) (c .before .before .before .before .before .before .before .before .before .before .before .page-ok .ensures) (not-false _ (c .before .before .before .before .before .before .before .if1 .left)), marks-few _ _ _ _ _ _ _ _ (a .pre .2) (c .before .before .before .before .before .before .before .before .before .before .before .page-ok .ensures) (not-false _ (c .before .before .before .before .before .before .before .if1 .left)))
 
--- src/root.rt:31:1
 same-length-4 : tie.Need-same-length-4
 same-length-4 c = search needs
 
--- src/root.rt:31:1
 returns-4 : tie.Need-returns-4
 returns-4 c = iff-trans (c .all-cleared .ensures) (tree-cleared _ _ _ _ _ _ _ _ (c .before .before .before .before .before .before .before .before .before .before .before .before .before .before .before .before .before .before .before .pre .2) (c .before .before .before .before .before .before .before .before .before .before .before .before .page-ok .ensures) (not-false _ (c .before .before .before .before .before .before .before .before .if1 .left)) (c .before .before .before .before .before .before .before .before .before .before .before .before .before .before .before .before .before .before .before .pre .0 .table) (not-false _ (c .before .before .before .before .before .if2 .left)) (c .before .before .if3 .left ∙ c .before .before .before .before .wide16 .ensures .0))
 

@@ -4,19 +4,13 @@ use Rattle.table_check.proofs.WholeTree.{no-marks}
 use borrow.Author.Needs.{needs}
 use Rattle.table_check.proofs.root.tree_sound.Statement.{statement}
 use Rattle.table_check.proofs.root.tree_sound.Tie as tie
-use Rattle.table_check.proofs.root.tree_sound.Reads as reads
-use Rattle.table_check.proofs.root.tree_sound.Lts as lts
-use Rattle.table_check.proofs.root.tree_marked.Reads as tree-marked-reads
 
--- src/root.rt:63:36
 slice-aggregate-tree-marked : tie.Need-slice-aggregate-tree-marked
 slice-aggregate-tree-marked c = search needs
 
--- src/root.rt:63:5
 tree-marked-requires : tie.Need-tree-marked-requires
 tree-marked-requires c κs = (c .before .before .before .before .pre, omega arith, no-marks 65536)
 
--- src/root.rt:58:1
 returns : tie.Need-returns
 returns c = search needs
 

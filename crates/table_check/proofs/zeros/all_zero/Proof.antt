@@ -3,9 +3,8 @@ use borrow.Author.Needs.{needs}
 use borrow.Author.Tests.{eqb-true, eq-eqb}
 use mathlib.Core.Path.{_≡_, refl, subst}
 use mathlib.Core.Logic.{_↔_}
-use Prim.Native.Nat.{ℕ, _≤_, _<_, _-_}
+use Prim.Native.Nat.{ℕ, _≤_, _-_}
 use native.Mathlib.Omega.{arith}
-use lib.ListN.{getD}
 use Rattle.table_check.specs.Scans.{ZeroBetween}
 use Rattle.table_check.proofs.Gathered.{zero-more}
 use Rattle.table_check.proofs.zeros.all_zero.Statement.{statement}
