@@ -88,7 +88,7 @@ leaf-row {h} {index} {keys} {used} {c} {row} map m a =
       carried = a .carried;
     }
 
-module _ (h : Index) (index keys used : List ℕ) (n page c : ℕ) (map : List ℕ) where
+module _ (h : Index) (index : List ℕ) (n page c : ℕ) (map : List ℕ) where
   -- A page is sound, and met once below, exactly if it is sized, not marked before, and its row is in order with the page marked.
   pub page-row : h .pages ≤ length map
       → EntrySound h index (suc n) (c, page) map ↔ (SizedPage (layoutOf (h .entries)) (h .pages) n index page × (getD map page 0 ≡ 0) × RowSound h index c n (rowsOf h index page) (set map page 1))
@@ -114,41 +114,45 @@ module _ (h : Index) (index keys used : List ℕ) (n page c : ℕ) (map : List �
             once = λ q. omega (arith, a .2 .once q, set-mark map page q (omega (arith, a .0 .number)) (a .1));
           }
 
+module _ {h : Index} {index keys used : List ℕ} {n page c : ℕ} {map : List ℕ} where
   -- A page that is refused as it is met.
   pub walked-refused : {map₁ map′ : List ℕ} {s : Scan} {b : Bool} → h .pages ≤ length map → Entered h index n page map map₁ b → b ≡ false → (r : Checked) → r .ok ≡ false
       → Walked h index keys used (suc n) (c, page) map map′ s r
   walked-refused long e z r o =
       record {
-        scanned = scanned-no r o (λ a p. let v = page-row long .0 a in said-no (e .verdict) z (v .0, v .1));
+        scanned = scanned-no r o (λ a p. let v = page-row h index n page c map long .0 a in said-no (e .verdict) z (v .0, v .1));
         marks = λ t. absurd (true≢false (sym t ∙ o));
       }
 
-  -- What the checks of its row take.
-  pub leaves-pre : {s : Scan} → WalkPre h index keys used map s → SizedPage (layoutOf (h .entries)) (h .pages) n index page → LeavesPre h index keys used page s
-  leaves-pre w s =
+-- What the checks of its row take.
+module _ {h : Index} {index keys used map : List ℕ} {s : Scan} (w : WalkPre h index keys used map s) where
+  pub leaves-pre : {n page : ℕ} → SizedPage (layoutOf (h .entries)) (h .pages) n index page → LeavesPre h index keys used page s
+  leaves-pre {n} {page} z =
       record {
-        within = within-table (layoutOf (h .entries)) (h .pages) page index (w .table) (s .number);
-        few = s .few;
+        within = within-table (layoutOf (h .entries)) (h .pages) page index (w .table) (z .number);
+        few = z .few;
         width = w .width;
         register = w .register;
         carried = w .carried;
       }
 
-  pub walk-on : {s : Scan} → WalkPre h index keys used map s → (map′ : List ℕ) (s′ : Scan) → length map′ ≡ length map → ((q : ℕ) → getD map′ q 0 ≤ 1) → Carried (h .width) (h .held) s′ → WalkPre h index keys used map′ s′
-  walk-on w map′ s′ l m k = record { table = w .table; width = w .width; register = w .register; carried = k; long = omega (arith, w .long); marked = m }
+  pub walk-on : (map′ : List ℕ) (s′ : Scan) → length map′ ≡ length map → ((q : ℕ) → getD map′ q 0 ≤ 1) → Carried (h .width) (h .held) s′ → WalkPre h index keys used map′ s′
+  walk-on map′ s′ l m k = record { table = w .table; width = w .width; register = w .register; carried = k; long = omega (arith, w .long); marked = m }
 
-  -- A page that is met, by the answer on its row.
-  module _ {map₁ : List ℕ} {b : Bool} (long : h .pages ≤ length map) (e : Entered h index n page map map₁ b) (z : b ≡ true) where
-    pub met-size : SizedPage (layoutOf (h .entries)) (h .pages) n index page
-    met-size = e .verdict .0 z .0
+module _ {h : Index} {index : List ℕ} {n page : ℕ} {map map₁ : List ℕ} {b : Bool} (long : h .pages ≤ length map) (e : Entered h index n page map map₁ b) (z : b ≡ true) where
+  -- Its size, and the marks with its own.
+  pub met-size : SizedPage (layoutOf (h .entries)) (h .pages) n index page
+  met-size = e .verdict .0 z .0
 
-    pub met-marked : ((q : ℕ) → getD map q 0 ≤ 1) → (q : ℕ) → getD map₁ q 0 ≤ 1
-    met-marked m q = rw (e .marks z) (go (same-cases page q))
-      where
-        go : (page ≡ q) ⊎ ((page ≡ q → ⊥) × (same page q ≡ 0)) → getD (set map page 1) q 0 ≤ 1
-        go (inl y) = rw (← y) (omega (arith, getD-set-same map page 1 0 (omega (arith, met-size .number))))
-        go (inr y) = omega (arith, m q, getD-set-other map page q 1 0 (λ x. y .0 (sym x)))
+  pub met-marked : ((q : ℕ) → getD map q 0 ≤ 1) → (q : ℕ) → getD map₁ q 0 ≤ 1
+  met-marked m q = rw (e .marks z) (go (same-cases page q))
+    where
+      go : (page ≡ q) ⊎ ((page ≡ q → ⊥) × (same page q ≡ 0)) → getD (set map page 1) q 0 ≤ 1
+      go (inl y) = rw (← y) (omega (arith, getD-set-same map page 1 0 (omega (arith, met-size .number))))
+      go (inr y) = omega (arith, m q, getD-set-other map page q 1 0 (λ x. y .0 (sym x)))
 
+  -- By the answer on its row.
+  module _ {keys used : List ℕ} {c : ℕ} where
     pub walked-row : {map′ : List ℕ} {s : Scan} {r : Checked}
         → Scanned (RowSound h index c n (rowsOf h index page) map₁) (h .width) keys used (h .held) s (leavesOfRow n (rowsOf h index) (rowsOf h index page)) r
         → (r .ok ≡ true → (q : ℕ) → getD map′ q 0 ≡ getD map₁ q 0 + metAll n (rowsOf h index) (rowsOf h index page) q)
@@ -160,8 +164,8 @@ module _ (h : Index) (index keys used : List ℕ) (n page c : ℕ) (map : List �
         record {
           scanned = record {
             verdict = (
-              (λ o. let d = a .verdict .0 o in (page-row long .1 (v .0, v .1, subst (RowSound h index c n (rowsOf h index page)) y (d .0)), d .1)),
-              (λ d. a .verdict .1 (subst (RowSound h index c n (rowsOf h index page)) (sym y) (page-row long .0 (d .0) .2), d .1)),
+              (λ o. let d = a .verdict .0 o in (page-row h index n page c map long .1 (v .0, v .1, subst (RowSound h index c n (rowsOf h index page)) y (d .0)), d .1)),
+              (λ d. a .verdict .1 (subst (RowSound h index c n (rowsOf h index page)) (sym y) (page-row h index n page c map long .0 (d .0) .2), d .1)),
             );
             state = a .state;
             carried = a .carried;

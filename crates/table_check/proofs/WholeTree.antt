@@ -82,7 +82,7 @@ walk-start h index keys used map p l z =
       marked = λ q. omega (arith, z q);
     }
 
-module _ (h : Index) (index keys used : List ℕ) (level : ℕ) (map map′ : List ℕ) (r : Checked) (unmarked : (q : ℕ) → getD map q 0 ≡ 0)
+module _ {h : Index} {index keys used : List ℕ} {level : ℕ} {map map′ : List ℕ} {r : Checked} (unmarked : (q : ℕ) → getD map q 0 ≡ 0)
     (w : Walked h index keys used (suc level) (rootRef (h .root .0)) map map′ startScan r) where
   abbrev end : State
   end = run (h .width) (keyAt keys) (inUse used) start (leavesBelow (suc level) (rowsOf h index) (rootRef (h .root .0)))
