@@ -1,0 +1,88 @@
+use borrow.Author.Needs.{needs}
+use borrow.Author.Tests.{leb-true, leb-false}
+use mathlib.Core.Path.{sym, _∙_}
+use Prim.Native.Nat.{_≤_, _-_}
+use native.Mathlib.Omega.{arith}
+use lib.ListN.{length}
+use Rattle.table_check.proofs.Gathered.{Gathered, gathered-none, gathered-more, gathered-sound, tallied-no, tallied-wide, tallied-yes}
+use Rattle.table_check.proofs.register.tally_records.Statement.{statement}
+use Rattle.table_check.proofs.register.tally_records.Tie as tie
+
+abbrev Inv-loop : tie.InvT-loop
+Inv-loop w keys used keys-or₀ odd₀ held₀ i₀ keys-or odd held i = (i ≤ length used) × Gathered keys used keys-or odd held i
+
+abbrev μ-loop : tie.MeasureT-loop
+μ-loop w keys used keys-or₀ odd₀ held₀ i₀ keys-or odd held i = length used - i
+
+loop-holds : tie.Need-loop-holds Inv-loop μ-loop
+loop-holds c = (omega arith, gathered-none _ _)
+
+shared-slice-read-wide : tie.Need-shared-slice-read-wide Inv-loop μ-loop
+shared-slice-read-wide c = search needs
+
+wide-requires : tie.Need-wide-requires Inv-loop μ-loop
+wide-requires c κs = search needs
+
+mul-key : tie.Need-mul-key Inv-loop μ-loop
+mul-key c = search needs
+
+shared-slice-read-key : tie.Need-shared-slice-read-key Inv-loop μ-loop
+shared-slice-read-key c = search needs
+
+wrapping-sub-u64-requires : tie.Need-wrapping-sub-u64-requires Inv-loop μ-loop
+wrapping-sub-u64-requires c κs = search needs
+
+add-held : tie.Need-add-held Inv-loop μ-loop
+add-held c = search needs
+
+add-i : tie.Need-add-i Inv-loop μ-loop
+add-i c = search needs
+
+loop-less : tie.Need-loop-less Inv-loop μ-loop
+loop-less c = search needs
+
+loop-again : tie.Need-loop-again Inv-loop μ-loop
+loop-again c =
+    let at = c .before .before .before .before .before in (
+      omega arith,
+      gathered-more _ _ _ _ _ _ _ _ (c .before .before .before .before .loop-test .taken) (omega (arith, c .before .shared-slice-known4 .given (at .loop .i))) (c .before .before .wide .ensures .0) (c .before .before .wide .ensures .1) (omega arith) (c .wrapping-sub-u64 .ensures) (at .loop .inv .1),
+    )
+
+returns : tie.Need-returns Inv-loop μ-loop
+returns c =
+    let end = c .before .before in
+    tallied-no _ _ _ _ (λ s. c .if1 .taken (gathered-sound _ _ _ _ _ _ _ (omega arith) (end .loop .inv .0) (end .loop .inv .1) .1 s .0))
+
+too-wide-requires : tie.Need-too-wide-requires Inv-loop μ-loop
+too-wide-requires c κs = search needs
+
+returns-2 : tie.Need-returns-2 Inv-loop μ-loop
+returns-2 c =
+    let end = c .before .before .before .before in
+    tallied-wide _ _ _ _ _ _ _ (omega arith) (end .loop .inv .0) (leb-true _ _ (sym (c .before .too-wide .ensures) ∙ c .if2 .taken)) (end .loop .inv .1)
+
+returns-3 : tie.Need-returns-3 Inv-loop μ-loop
+returns-3 c =
+    let end = c .before .before .before .before in
+    tallied-yes _ _ _ _ _ _ _ (omega arith) (end .loop .inv .0) (omega arith) (leb-false _ _ (sym (c .before .too-wide .ensures) ∙ c .if2 .left)) (end .loop .inv .1)
+
+pub tally-records-spec : {M : Type 1} → statement M
+tally-records-spec =
+    tie.close
+    (tie.spec
+    Inv-loop
+    μ-loop
+    loop-holds
+    shared-slice-read-wide
+    wide-requires
+    mul-key
+    shared-slice-read-key
+    wrapping-sub-u64-requires
+    add-held
+    add-i
+    loop-less
+    loop-again
+    returns
+    too-wide-requires
+    returns-2
+    returns-3)

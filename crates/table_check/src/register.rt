@@ -1,0 +1,38 @@
+// The register's records, each by itself.
+ghost use mathlib.Core.Path.{_≡_};
+ghost use Prim.Native.Nat.{_≤_};
+ghost use lib.ListN.{length};
+ghost use Rattle.table_check.specs.Scans.{Tallied};
+use crate::numbers::wide;
+
+// Whether every record is sound, and how many are in use.
+pub struct Tally {
+    pub fits: bool,
+    pub held: u64,
+}
+
+// One pass over the register. What is wrong is gathered and judged at the end: a byte above 1, a key on a free record, a key too wide.
+pub fn tally_records(w: u64, keys: &[u64], used: &[u8]) -> Tally
+    requires { ⌜ (w ≤ 64) × (length (now keys) ≡ length (now used)) × (length (now used) ≤ 65534) ⌝ }
+    ensures { λ r. ⌜ Tallied w (now (keys .entry)) (now (used .entry)) r ⌝ }
+{
+    let mut keys_or = 0u64;
+    let mut odd = 0u64;
+    let mut held = 0u64;
+    let mut i = 0;
+    while i < used.len() {
+        let byte = wide(used[i]);
+        let key = keys[i];
+        keys_or |= key;
+        odd |= (byte >> 1) | (key & std::num::wrapping_sub_u64(byte, 1));
+        held += byte;
+        i += 1;
+    }
+    if odd != 0 {
+        return Tally { fits: false, held };
+    }
+    if leaf_list::too_wide(w, keys_or) {
+        return Tally { fits: false, held };
+    }
+    Tally { fits: true, held }
+}

@@ -1,0 +1,79 @@
+// The whole tree, from the root.
+ghost use mathlib.Core.Path.{_≡_};
+ghost use mathlib.Core.Bool.{true};
+ghost use mathlib.Core.Logic.{_↔_};
+ghost use Prim.Native.Nat.{ℕ, _≤_};
+ghost use lib.ListN.{length, getD};
+ghost use Rattle.index_table.specs.Layout.{layoutOf, Within};
+ghost use Rattle.table_check.specs.Walks.{rowsOf};
+ghost use Rattle.table_check.specs.Trees.{TreePre, TreeSound, PagesSound};
+use crate::entries::Scan;
+use crate::numbers::wide16;
+use index_table::header::Index;
+
+// Whether the root may stand on this level: at most the highest, and above level 0 with two entries or more.
+fn root_fits(index: &[u8], h: Index, level: u8) -> bool
+    requires { ⌜ Within (layoutOf (h .entries)) (now index) (h .root .0) ⌝ }
+    ensures { λ r. ⌜ (r ≡ true) ↔ ((level ≤ 15) × (1 ≤ level → 2 ≤ length (rowsOf h (now (index .entry)) (h .root .0)))) ⌝ }
+{
+    if level > Index::MAX_LEVEL {
+        return false;
+    }
+    if level == 0 {
+        return true;
+    }
+    let root = h.root;
+    index_table::layout::count(index, h.entries, root) >= 2
+}
+
+// The tree below the root, marked in the map, and then every page against its mark.
+fn tree_marked(index: &[u8], keys: &[u64], used: &[u8], map: &mut [u8], h: Index, level: u8) -> bool
+    requires { ⌜ TreePre h (now index) (now keys) (now used) × (h .pages ≤ length (now map)) × ((q : ℕ) → getD (now map) q 0 ≡ 0) ⌝ }
+    ensures { λ r. ⌜ (r ≡ true) ↔ TreeSound h (now (index .entry)) (now (keys .entry)) (now (used .entry)) level ⌝ }
+{
+    let start = Scan {
+        disc: 0,
+        trail: 0,
+        dummy: false,
+        live: 0,
+        closed: false,
+    };
+    let root = h.root;
+    let end = crate::pages::page_ok(index, keys, used, map, h, level, root, 0, start);
+    if !end.ok {
+        return false;
+    }
+    let scan = end.scan;
+    if !scan.closed {
+        return false;
+    }
+    if scan.live != wide16(h.held) {
+        return false;
+    }
+    crate::cleared::all_cleared(index, map, h)
+}
+
+// The same, with a map of its own for the pages met.
+fn tree_sound(index: &[u8], keys: &[u64], used: &[u8], h: Index, level: u8) -> bool
+    requires { ⌜ TreePre h (now index) (now keys) (now used) ⌝ }
+    ensures { λ r. ⌜ (r ≡ true) ↔ TreeSound h (now (index .entry)) (now (keys .entry)) (now (used .entry)) level ⌝ }
+{
+    let mut map = [0u8; 65536];
+    tree_marked(index, keys, used, &mut map, h, level)
+}
+
+// Whether the pages are sound, and the entries on level 0 pass.
+pub fn pages_sound(index: &[u8], keys: &[u64], used: &[u8], h: Index) -> bool
+    requires { ⌜ TreePre h (now index) (now keys) (now used) ⌝ }
+    ensures { λ r. ⌜ (r ≡ true) ↔ PagesSound h (now (index .entry)) (now (keys .entry)) (now (used .entry)) ⌝ }
+{
+    let root = h.root;
+    if root.0 >= h.pages {
+        return false;
+    }
+    let level = index_table::layout::level(index, h.entries, root);
+    if !root_fits(index, h, level) {
+        return false;
+    }
+    tree_sound(index, keys, used, h, level)
+}
