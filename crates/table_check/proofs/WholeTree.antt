@@ -1,7 +1,7 @@
 -- The whole tree from the root: what the walk and the marks say of it. Assumes nothing.
 use mathlib.Core.Path.{_≡_, refl, sym, ap, subst, _∙_}
 use mathlib.Core.Logic.{_↔_, _⊎_, inl, inr}
-use mathlib.Core.Bool.{Bool, true, false, _&&_}
+use mathlib.Core.Bool.{Bool, true, false, _&&_, and-eq-true-iff}
 use mathlib.Core.List.{List, [], _∷_}
 use Prim.Native.Nat.{ℕ, zero, suc, _≤_, _<_}
 use native.Mathlib.Omega.{arith}
@@ -11,7 +11,6 @@ use lib.ListN.{length, getD, replicate}
 use borrow.Author.Tests.{eqb-true, eqb-false, eq-eqb, ltb-true, ltb-false, leb-true, le-leb}
 use Rattle.leaf_list.specs.Register.{keyAt, inUse}
 use Rattle.leaf_list.specs.Conditions.{State, start, run}
-use Rattle.leaf_list.proofs.CheckTests.{and-left, and-right, and-both}
 use Rattle.page_tree.specs.Rows.{All}
 use Rattle.index_table.specs.Layout.{Layout, Ref, layoutOf, pageStart, pageBytes, countOf}
 use Rattle.index_table.specs.Pages.{pagesAt, rootRef, same, met, metAll, inUse as pageInUse}
@@ -93,19 +92,19 @@ module _ {h : Index} {index keys used : List ℕ} {level : ℕ} {map map′ : Li
       w .scanned .verdict .1 (
         record { sound = t .below; once = λ q. omega (arith, unmarked q, t .once q) },
         record {
-          fits = and-left (end .fits) (end .closed) (and-left (end .fits && end .closed) (eqb (end .live) (h .held)) (t .leaves));
-          few = omega (arith, eqb-true (end .live) (h .held) (and-right (end .fits && end .closed) (eqb (end .live) (h .held)) (t .leaves)));
+          fits = and-eq-true-iff (end .fits) (end .closed) .0 (and-eq-true-iff (end .fits && end .closed) (eqb (end .live) (h .held)) .0 (t .leaves) .0) .0;
+          few = omega (arith, eqb-true (end .live) (h .held) (and-eq-true-iff (end .fits && end .closed) (eqb (end .live) (h .held)) .0 (t .leaves) .1));
         },
       )
 
   module _ (o : r .ok ≡ true) where
     pub tree-closed : TreeSound h index keys used level → r .scan .closed ≡ true
     tree-closed t =
-        ap (λ (s : State). s .closed) (w .scanned .state o) ∙ and-right (end .fits) (end .closed) (and-left (end .fits && end .closed) (eqb (end .live) (h .held)) (t .leaves))
+        ap (λ (s : State). s .closed) (w .scanned .state o) ∙ and-eq-true-iff (end .fits) (end .closed) .0 (and-eq-true-iff (end .fits && end .closed) (eqb (end .live) (h .held)) .0 (t .leaves) .0) .1
 
     pub tree-live : TreeSound h index keys used level → r .scan .live ≡ h .held
     tree-live t =
-        ap (λ (s : State). s .live) (w .scanned .state o) ∙ eqb-true (end .live) (h .held) (and-right (end .fits && end .closed) (eqb (end .live) (h .held)) (t .leaves))
+        ap (λ (s : State). s .live) (w .scanned .state o) ∙ eqb-true (end .live) (h .held) (and-eq-true-iff (end .fits && end .closed) (eqb (end .live) (h .held)) .0 (t .leaves) .1)
 
     marks : (q : ℕ) → getD map′ q 0 ≡ met (suc level) (rowsOf h index) (rootRef (h .root .0)) q
     marks q = omega (arith, w .scanned .verdict .0 o .0 .once q, w .marks o q, unmarked q)
@@ -125,9 +124,10 @@ module _ {h : Index} {index keys used : List ℕ} {level : ℕ} {map map′ : Li
             below = a .0 .sound;
             once = λ q. once f q (ltb q (h .pages)) refl;
             cleared = λ q g. f q g .zero;
-            leaves = and-both (end .fits && end .closed) (eqb (end .live) (h .held))
-                (and-both (end .fits) (end .closed) (a .1 .fits) (sym (ap (λ (s : State). s .closed) (w .scanned .state o)) ∙ c))
-                (eq-eqb (end .live) (h .held) (sym (ap (λ (s : State). s .live) (w .scanned .state o)) ∙ l));
+            leaves = and-eq-true-iff (end .fits && end .closed) (eqb (end .live) (h .held)) .1 (
+              and-eq-true-iff (end .fits) (end .closed) .1 (a .1 .fits, sym (ap (λ (s : State). s .closed) (w .scanned .state o)) ∙ c),
+              eq-eqb (end .live) (h .held) (sym (ap (λ (s : State). s .live) (w .scanned .state o)) ∙ l),
+            );
           }),
       (λ t q g. record { met = marks q ∙ t .once q; zero = t .cleared q g }),
     )

@@ -1,2 +1,3 @@
 pub mod FormatLimits
 pub mod EmptyTables
+pub mod Judging

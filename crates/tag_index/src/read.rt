@@ -1,0 +1,28 @@
+// The calls that only read.
+ghost use mathlib.Core.Path.{_≡_};
+ghost use Prim.Native.Nat.{_≤_};
+ghost use lib.ListN.{length};
+ghost use Rattle.index_table.specs.Header.{widthOf};
+ghost use Rattle.tag_index.specs.Reading.{FindDoes};
+use table_calls::answer::Answer;
+
+// The width of the keys.
+fn width(index: &[u8]) -> u64
+    requires { ⌜ 16 ≤ length (now index) ⌝ }
+    ensures { λ r. ⌜ (r ≡ widthOf (now (index .entry))) × (r ≤ 255) ⌝ }
+{
+    index[0] as u64
+}
+
+// The record of a held key.
+pub fn find(index: &[u8], keys: &[u64], used: &[u8], key: u64) -> Answer
+    ensures { λ r. ⌜ FindDoes (now (index .entry)) (now (keys .entry)) (now (used .entry)) key r ⌝ }
+{
+    if !table_check::check(index, keys, used) {
+        return Answer::plain(1);
+    }
+    if leaf_list::too_wide(width(index), key) {
+        return Answer::plain(2);
+    }
+    table_calls::find::find_held(index, keys, used, key)
+}
