@@ -6,7 +6,7 @@ use mathlib.Core.List.{List, [], _∷_}
 use Prim.Native.Nat.{ℕ, suc, _+_, _-_, _≤_, _<_}
 use native.Mathlib.Omega.{arith}
 use lib.Dec.{leb}
-use lib.ListN.{length, getD, set}
+use lib.ListN.{length, getD, set, length-set}
 use lib.Seq.{getD-set-same, getD-set-other}
 use borrow.Author.Tests.{leb-true, le-leb}
 use Rattle.page_tree.specs.Rows.{Closed}
@@ -116,76 +116,90 @@ module _ (h : Index) (index : List ℕ) (n page c : ℕ) (map : List ℕ) where
 
 module _ {h : Index} {index keys used : List ℕ} {n page c : ℕ} {map : List ℕ} where
   -- A page that is refused as it is met.
-  pub walked-refused : {map₁ map′ : List ℕ} {s : Scan} {b : Bool} → h .pages ≤ length map → Entered h index n page map map₁ b → b ≡ false → (r : Checked) → r .ok ≡ false
+  pub walked-refused : {map₁ map′ : List ℕ} {s : Scan} {b : Bool} → WalkPre h index keys used map s → Entered h index n page map map₁ b → b ≡ false → (r : Checked) → r .ok ≡ false
       → Walked h index keys used (suc n) (c, page) map map′ s r
-  walked-refused long e z r o =
+  walked-refused w e z r o =
       record {
-        scanned = scanned-no r o (λ a p. let v = page-row h index n page c map long .0 a in said-no (e .verdict) z (v .0, v .1));
+        scanned = scanned-no r o (λ a p. let v = page-row h index n page c map (w .long) .0 a in said-no (e .verdict) z (v .0, v .1));
         marks = λ t. absurd (true≢false (sym t ∙ o));
       }
 
--- What the checks of its row take.
-module _ {h : Index} {index keys used map : List ℕ} {s : Scan} (w : WalkPre h index keys used map s) where
-  pub leaves-pre : {n page : ℕ} → SizedPage (layoutOf (h .entries)) (h .pages) n index page → LeavesPre h index keys used page s
-  leaves-pre {n} {page} z =
-      record {
-        within = within-table (layoutOf (h .entries)) (h .pages) page index (w .table) (z .number);
-        few = z .few;
-        width = w .width;
-        register = w .register;
-        carried = w .carried;
-      }
+-- A page that was met: what the check of it took, its size, and the map with its mark.
+pub record MetPage (h : Index) (index keys used : List ℕ) (n page : ℕ) (map map₁ : List ℕ) (s : Scan) : Type 0 where
+  pub pre : WalkPre h index keys used map s
+  pub size : SizedPage (layoutOf (h .entries)) (h .pages) n index page
+  pub unmarked : getD map page 0 ≡ 0
+  pub marks : map₁ ≡ set map page 1
 
-  pub walk-on : (map′ : List ℕ) (s′ : Scan) → length map′ ≡ length map → ((q : ℕ) → getD map′ q 0 ≤ 1) → Carried (h .width) (h .held) s′ → WalkPre h index keys used map′ s′
-  walk-on map′ s′ l m k = record { table = w .table; width = w .width; register = w .register; carried = k; long = omega (arith, w .long); marked = m }
+pub met-page : {h : Index} {index keys used : List ℕ} {n page : ℕ} {map map₁ : List ℕ} {s : Scan} {b : Bool} → WalkPre h index keys used map s → Entered h index n page map map₁ b → b ≡ true
+    → MetPage h index keys used n page map map₁ s
+met-page w e z = record { pre = w; size = e .verdict .0 z .0; unmarked = e .verdict .0 z .1; marks = e .marks z }
 
-module _ {h : Index} {index : List ℕ} {n page : ℕ} {map map₁ : List ℕ} {b : Bool} (long : h .pages ≤ length map) (e : Entered h index n page map map₁ b) (z : b ≡ true) where
-  -- Its size, and the marks with its own.
-  pub met-size : SizedPage (layoutOf (h .entries)) (h .pages) n index page
-  met-size = e .verdict .0 z .0
+module _ {h : Index} {index keys used : List ℕ} {n page : ℕ} {map map₁ : List ℕ} {s : Scan} (m : MetPage h index keys used n page map map₁ s) where
+  inside : page < length map
+  inside = omega (arith, m .size .number, m .pre .long)
 
-  pub met-marked : ((q : ℕ) → getD map q 0 ≤ 1) → (q : ℕ) → getD map₁ q 0 ≤ 1
-  met-marked m q = rw (e .marks z) (go (same-cases page q))
+  -- Every mark is 0 or 1 still, and the map as long.
+  pub met-marked : (q : ℕ) → getD map₁ q 0 ≤ 1
+  met-marked q = rw (m .marks) (go (same-cases page q))
     where
       go : (page ≡ q) ⊎ ((page ≡ q → ⊥) × (same page q ≡ 0)) → getD (set map page 1) q 0 ≤ 1
-      go (inl y) = rw (← y) (omega (arith, getD-set-same map page 1 0 (omega (arith, met-size .number))))
-      go (inr y) = omega (arith, m q, getD-set-other map page q 1 0 (λ x. y .0 (sym x)))
+      go (inl y) = rw (← y) (omega (arith, getD-set-same map page 1 0 inside))
+      go (inr y) = omega (arith, m .pre .marked q, getD-set-other map page q 1 0 (λ x. y .0 (sym x)))
+
+  pub met-long : length map₁ ≡ length map
+  met-long = ap length (m .marks) ∙ length-set map page 1
+
+  -- What the checks of its row take.
+  pub leaves-pre : LeavesPre h index keys used page s
+  leaves-pre =
+      record {
+        within = within-table (layoutOf (h .entries)) (h .pages) page index (m .pre .table) (m .size .number);
+        few = m .size .few;
+        width = m .pre .width;
+        register = m .pre .register;
+        carried = m .pre .carried;
+      }
+
+  pub walk-on : (map′ : List ℕ) (s′ : Scan) → length map′ ≡ length map₁ → ((q : ℕ) → getD map′ q 0 ≤ 1) → Carried (h .width) (h .held) s′ → WalkPre h index keys used map′ s′
+  walk-on map′ s′ l k b =
+      record { table = m .pre .table; width = m .pre .width; register = m .pre .register; carried = b; long = omega (arith, m .pre .long, met-long); marked = k }
 
   -- By the answer on its row.
-  module _ {keys used : List ℕ} {c : ℕ} where
-    pub walked-row : {map′ : List ℕ} {s : Scan} {r : Checked}
+  module _ {c : ℕ} where
+    pub walked-row : {map′ : List ℕ} {r : Checked}
         → Scanned (RowSound h index c n (rowsOf h index page) map₁) (h .width) keys used (h .held) s (leavesOfRow n (rowsOf h index) (rowsOf h index page)) r
         → (r .ok ≡ true → (q : ℕ) → getD map′ q 0 ≡ getD map₁ q 0 + metAll n (rowsOf h index) (rowsOf h index page) q)
         → Walked h index keys used (suc n) (c, page) map map′ s r
     unfolding met nodeAt
-    walked-row {map′} {s} {r} a m =
-        let y = e .marks z in
-        let v = e .verdict .0 z in
+    walked-row {map′} {r} a k =
         record {
           scanned = record {
             verdict = (
-              (λ o. let d = a .verdict .0 o in (page-row h index n page c map long .1 (v .0, v .1, subst (RowSound h index c n (rowsOf h index page)) y (d .0)), d .1)),
-              (λ d. a .verdict .1 (subst (RowSound h index c n (rowsOf h index page)) (sym y) (page-row h index n page c map long .0 (d .0) .2), d .1)),
+              (λ o. let d = a .verdict .0 o in (row .1 (m .size, m .unmarked, subst (RowSound h index c n (rowsOf h index page)) (m .marks) (d .0)), d .1)),
+              (λ d. a .verdict .1 (subst (RowSound h index c n (rowsOf h index page)) (sym (m .marks)) (row .0 (d .0) .2), d .1)),
             );
             state = a .state;
             carried = a .carried;
           };
-          marks = λ o q.
-              omega (arith, m o q, ap (λ (l : List ℕ). getD l q 0) y, set-mark map page q (omega (arith, v .0 .number)) (v .1));
+          marks = λ o q. omega (arith, k o q, ap (λ (l : List ℕ). getD l q 0) (m .marks), set-mark map page q inside (m .unmarked));
         }
+      where
+        row : EntrySound h index (suc n) (c, page) map ↔ (SizedPage (layoutOf (h .entries)) (h .pages) n index page × (getD map page 0 ≡ 0) × RowSound h index c n (rowsOf h index page) (set map page 1))
+        row = page-row h index n page c map (m .pre .long)
 
-    pub walked-row-no : {map′ : List ℕ} {s : Scan} {r : Checked} → r .ok ≡ false
+    pub walked-row-no : {map′ : List ℕ} {r : Checked} → r .ok ≡ false
         → Scanned (RowSound h index c n (rowsOf h index page) map₁) (h .width) keys used (h .held) s (leavesOfRow n (rowsOf h index) (rowsOf h index page)) r
         → Walked h index keys used (suc n) (c, page) map map′ s r
     walked-row-no o a = walked-row a (λ t. absurd (true≢false (sym t ∙ o)))
 
     -- On level 0.
-    pub walked-leaves : {s : Scan} {r : Checked} → n ≡ 0 → ((q : ℕ) → getD map q 0 ≤ 1)
+    pub walked-leaves : {r : Checked} → n ≡ 0
         → Scanned (RowSound h index c 0 (rowsOf h index page) []) (h .width) keys used (h .held) s (leavesOfRow 0 (rowsOf h index) (rowsOf h index page)) r
         → Walked h index keys used (suc n) (c, page) map map₁ s r
-    walked-leaves {s} {r} y m a =
+    walked-leaves {r} y a =
         walked-row
-        (subst (λ (k : ℕ). Scanned (RowSound h index c k (rowsOf h index page) map₁) (h .width) keys used (h .held) s (leavesOfRow k (rowsOf h index) (rowsOf h index page)) r) (sym y) (leaf-row map₁ (met-marked m) a))
+        (subst (λ (k : ℕ). Scanned (RowSound h index c k (rowsOf h index page) map₁) (h .width) keys used (h .held) s (leavesOfRow k (rowsOf h index) (rowsOf h index page)) r) (sym y) (leaf-row map₁ met-marked a))
         (λ o q. omega (arith, no-pages (rowsOf h index) (rowsOf h index page) q, ap (λ (k : ℕ). metAll k (rowsOf h index) (rowsOf h index page) q) y))
 
 -- An entry by its parts, and by its rank.

@@ -1,4 +1,5 @@
 -- One entry, test by test. Assumes nothing.
+use native.Mathlib.Omega.{arith}
 use mathlib.Core.Path.{_≡_, _∙_}
 use mathlib.Core.Logic.{⊎-elim}
 use mathlib.Core.Bool.{true, not, _||_, or-true}
@@ -23,7 +24,7 @@ returns-2 : tie.Need-returns-2
 returns-2 c = rw (le-leb _ _ (c .before .before .before .if1 .left), ne-eqb _ 0 (c .before .before .if2 .taken), ← c .before .bit-is-set .ensures, c .if3 .taken)
 
 returns-3 : tie.Need-returns-3
-returns-3 c = rw (le-leb _ _ (c .before .before .before .before .if1 .left), clear (c .before .before .before), c .before .before .if4 .taken, le-ltb _ _ (c .if5 .taken))
+returns-3 c = rw (le-leb _ _ (c .before .before .before .before .if1 .left), clear (c .before .before .before), c .before .before .if4 .taken, le-ltb (c .before .before .before .before .before .before .before .args .s .trail) (c .before .before .before .before .before .before .before .args .d) (omega (arith, c .if5 .taken)))
 
 pointer-fits-requires : tie.Need-pointer-fits-requires
 pointer-fits-requires c κs = search needs

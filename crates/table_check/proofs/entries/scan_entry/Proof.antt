@@ -1,7 +1,7 @@
+-- One entry: what is refused, and what is carried on. Assumes nothing.
 use Rattle.leaf_list.proofs.CheckLoop.{fits-depth}
 use Rattle.leaf_list.specs.Register.{keyAt, inUse}
 use Rattle.index_table.specs.Pages.{recordOf}
--- One entry: what is refused, and what is carried on. Assumes nothing.
 use mathlib.Core.Path.{sym, _∙_}
 use borrow.Author.Tests.{not-true, not-false}
 use Rattle.table_check.proofs.EntryTests.{entry-closed, entry-refused, entry-beyond, entry-last, entry-next}

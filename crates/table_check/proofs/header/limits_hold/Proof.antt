@@ -1,5 +1,5 @@
-use Rattle.table_check.proofs.Headers.{limits-all}
 -- The limits, number by number. Assumes nothing.
+use Rattle.table_check.proofs.Headers.{limits-all}
 use native.Mathlib.Omega.{arith}
 use borrow.Author.Tests.{not-true, not-false}
 use Rattle.table_check.proofs.Iff.{iff-no, said-no}

@@ -5,7 +5,7 @@ use native.Mathlib.Omega.{arith}
 use lib.ListN.{length}
 use borrow.Author.Tests.{not-true, not-false}
 use Rattle.table_check.proofs.RowTurns.{RowTurn, entryAt, entry-few, row-start, row-depth, row-entry, row-more, row-all, row-marks}
-use Rattle.table_check.proofs.MetPages.{walked-refused, leaves-pre, walk-on, met-size, met-marked, walked-row, walked-row-no, walked-leaves, walked-at, walked-lower}
+use Rattle.table_check.proofs.MetPages.{MetPage, met-page, met-marked, met-long, leaves-pre, walk-on, walked-refused, walked-row, walked-row-no, walked-leaves, walked-at, walked-lower}
 use borrow.Author.Needs.{needs}
 use Prim.Native.Nat.{ℕ}
 use borrow.Fn.Kinds.{In}
@@ -93,6 +93,11 @@ page-ok-Inv-loop index keys used map₀ h level page c n scan₀ i₀ map scan i
 abbrev page-ok-μ-loop : page-ok-lts.MeasureT-loop
 page-ok-μ-loop index keys used map₀ h level page c n scan₀ i₀ map scan i = n - i
 
+-- The page was met.
+met : (t : ℕ) (c : page-ok-lts.Else1 (page-ok-claims t) (page-ok-at t) page-ok.Post page-ok-Inv-loop page-ok-μ-loop) → let a = c .before .before .before .before .before .before .before .before .before .args in
+    MetPage (a .h) (a .index .now) (a .keys .now) (a .used .now) (a .level) (a .page .0) (a .map .now) (c .before .before .before .enter .last .1 .0) (a .s)
+met t c = met-page (c .before .before .before .before .before .before .before .before .before .pre .1) (c .before .before .before .enter .ensures) (not-false _ (c .if1 .left))
+
 page-ok-enter-requires : (t : ℕ) → page-ok-lts.Need-enter-requires (page-ok-claims t) (page-ok-at t) page-ok.Post page-ok-Inv-loop page-ok-μ-loop
 page-ok-enter-requires t c κs = (c .before .before .before .before .before .pre .1 .table, c .before .before .before .before .before .pre .1 .long)
 
@@ -100,28 +105,28 @@ page-ok-same-length : (t : ℕ) → page-ok-lts.Need-same-length (page-ok-claims
 page-ok-same-length t c = search needs
 
 page-ok-returns : (t : ℕ) → page-ok-lts.Need-returns (page-ok-claims t) (page-ok-at t) page-ok.Post page-ok-Inv-loop page-ok-μ-loop
-page-ok-returns t c = walked-refused (c .before .before .before .before .before .before .before .before .before .pre .1 .long) (c .before .before .before .enter .ensures) (not-true _ (c .if1 .taken)) _ refl
+page-ok-returns t c = walked-refused (c .before .before .before .before .before .before .before .before .before .pre .1) (c .before .before .before .enter .ensures) (not-true _ (c .if1 .taken)) _ refl
 
 page-ok-scan-leaves-requires : (t : ℕ) → page-ok-lts.Need-scan-leaves-requires (page-ok-claims t) (page-ok-at t) page-ok.Post page-ok-Inv-loop page-ok-μ-loop
-page-ok-scan-leaves-requires t c κs = leaves-pre (c .before .before .before .before .before .before .before .before .before .before .pre .1) (met-size (c .before .before .before .before .before .before .before .before .before .before .pre .1 .long) (c .before .before .before .before .enter .ensures) (not-false _ (c .before .if1 .left)))
+page-ok-scan-leaves-requires t c κs = leaves-pre (met t (c .before))
 
 page-ok-same-length-2 : (t : ℕ) → page-ok-lts.Need-same-length-2 (page-ok-claims t) (page-ok-at t) page-ok.Post page-ok-Inv-loop page-ok-μ-loop
-page-ok-same-length-2 t c = c .before .before .before .before .before .enter .kept .1 .0
+page-ok-same-length-2 t c = met-long (met t (c .before .before))
 
 page-ok-returns-2 : (t : ℕ) → page-ok-lts.Need-returns-2 (page-ok-claims t) (page-ok-at t) page-ok.Post page-ok-Inv-loop page-ok-μ-loop
-page-ok-returns-2 t c = walked-leaves (c .before .before .before .before .before .before .before .before .before .before .before .pre .1 .long) (c .before .before .before .before .before .enter .ensures) (not-false _ (c .before .before .if1 .left)) (c .before .if2 .taken) (c .before .before .before .before .before .before .before .before .before .before .before .pre .1 .marked) (c .scan-leaves .ensures)
+page-ok-returns-2 t c = walked-leaves (met t (c .before .before)) (c .before .if2 .taken) (c .scan-leaves .ensures)
 
 page-ok-count-requires : (t : ℕ) → page-ok-lts.Need-count-requires (page-ok-claims t) (page-ok-at t) page-ok.Post page-ok-Inv-loop page-ok-μ-loop
-page-ok-count-requires t c κs = (leaves-pre (c .before .before .before .before .before .before .before .before .before .before .pre .1) (met-size (c .before .before .before .before .before .before .before .before .before .before .pre .1 .long) (c .before .before .before .before .enter .ensures) (not-false _ (c .before .if1 .left)))) .within
+page-ok-count-requires t c κs = leaves-pre (met t (c .before)) .within
 
 page-ok-wide-requires : (t : ℕ) → page-ok-lts.Need-wide-requires (page-ok-claims t) (page-ok-at t) page-ok.Post page-ok-Inv-loop page-ok-μ-loop
 page-ok-wide-requires t c κs = search needs
 
 page-ok-loop-holds : (t : ℕ) → page-ok-lts.Need-loop-holds (page-ok-claims t) (page-ok-at t) page-ok.Post page-ok-Inv-loop page-ok-μ-loop
-page-ok-loop-holds t c = (row-start _ _ _ (c .wide .ensures .0 ∙ c .before .count .ensures) (met-marked (c .before .before .before .before .before .before .before .before .before .before .before .before .pre .1 .long) (c .before .before .before .before .before .before .enter .ensures) (not-false _ (c .before .before .before .if1 .left)) (c .before .before .before .before .before .before .before .before .before .before .before .before .pre .1 .marked)) (c .before .before .before .before .before .before .before .before .before .before .before .before .pre .1 .carried), refl)
+page-ok-loop-holds t c = (row-start _ _ _ (c .wide .ensures .0 ∙ c .before .count .ensures) (met-marked (met t (c .before .before .before))) (met t (c .before .before .before) .pre .carried), refl)
 
 page-ok-depth-requires : (t : ℕ) → page-ok-lts.Need-depth-requires (page-ok-claims t) (page-ok-at t) page-ok.Post page-ok-Inv-loop page-ok-μ-loop
-page-ok-depth-requires t c κs = let l = (leaves-pre (c .before .before .before .before .before .before .before .before .before .before .before .before .before .before .pre .1) (met-size (c .before .before .before .before .before .before .before .before .before .before .before .before .before .before .pre .1 .long) (c .before .before .before .before .before .before .before .before .enter .ensures) (not-false _ (c .before .before .before .before .before .if1 .left)))) in (l .within, entry-few (c .before .before .before .before .before .before .before .before .before .before .before .before .before .before .args .h) _ _ _ _ (c .before .before .wide .ensures .0 ∙ c .before .before .before .count .ensures) (l .few) (c .loop-test .taken))
+page-ok-depth-requires t c κs = let l = leaves-pre (met t (c .before .before .before .before .before)) in (l .within, entry-few (c .before .before .before .before .before .before .before .before .before .before .before .before .before .before .args .h) _ _ _ _ (c .before .before .wide .ensures .0 ∙ c .before .before .before .count .ensures) (l .few) (c .loop-test .taken))
 
 page-ok-add-closes : (t : ℕ) → page-ok-lts.Need-add-closes (page-ok-claims t) (page-ok-at t) page-ok.Post page-ok-Inv-loop page-ok-μ-loop
 page-ok-add-closes t c = search needs
@@ -130,22 +135,23 @@ page-ok-closes-requires : (t : ℕ) → page-ok-lts.Need-closes-requires (page-o
 page-ok-closes-requires t c κs = search needs
 
 page-ok-same-length-3 : (t : ℕ) → page-ok-lts.Need-same-length-3 (page-ok-claims t) (page-ok-at t) page-ok.Post page-ok-Inv-loop page-ok-μ-loop
-page-ok-same-length-3 t c = c .before .before .before .before .loop .inv .1 ∙ c .before .before .before .before .before .before .before .before .before .before .before .enter .kept .1 .0
+page-ok-same-length-3 t c = c .before .before .before .before .loop .inv .1 ∙ met-long (met t (c .before .before .before .before .before .before .before .before))
 
 page-ok-returns-3 : (t : ℕ) → page-ok-lts.Need-returns-3 (page-ok-claims t) (page-ok-at t) page-ok.Post page-ok-Inv-loop page-ok-μ-loop
-page-ok-returns-3 t c = walked-row-no (c .before .before .before .before .before .before .before .before .before .before .before .before .before .before .before .before .before .pre .1 .long) (c .before .before .before .before .before .before .before .before .before .before .before .enter .ensures) (not-false _ (c .before .before .before .before .before .before .before .before .if1 .left)) refl (row-depth (c .before .before .before .before .loop .inv .0) (c .before .before .before .loop-test .taken) _ (c .before .before .depth .ensures) (sym (c .before .closes .ensures) ∙ not-true _ (c .if3 .taken)) _ refl)
+page-ok-returns-3 t c = walked-row-no (met t (c .before .before .before .before .before .before .before .before)) refl (row-depth (c .before .before .before .before .loop .inv .0) (c .before .before .before .loop-test .taken) _ (c .before .before .depth .ensures) (sym (c .before .closes .ensures) ∙ not-true _ (c .if3 .taken)) _ refl)
 
 page-ok-child-requires : (t : ℕ) → page-ok-lts.Need-child-requires (page-ok-claims t) (page-ok-at t) page-ok.Post page-ok-Inv-loop page-ok-μ-loop
-page-ok-child-requires t c κs = let l = (leaves-pre (c .before .before .before .before .before .before .before .before .before .before .before .before .before .before .before .before .before .pre .1) (met-size (c .before .before .before .before .before .before .before .before .before .before .before .before .before .before .before .before .before .pre .1 .long) (c .before .before .before .before .before .before .before .before .before .before .before .enter .ensures) (not-false _ (c .before .before .before .before .before .before .before .before .if1 .left)))) in (l .within, entry-few (c .before .before .before .before .before .before .before .before .before .before .before .before .before .before .before .before .before .args .h) _ _ _ _ (c .before .before .before .before .before .wide .ensures .0 ∙ c .before .before .before .before .before .before .count .ensures) (l .few) (c .before .before .before .loop-test .taken))
+page-ok-child-requires t c κs = let l = leaves-pre (met t (c .before .before .before .before .before .before .before .before)) in (l .within, entry-few (c .before .before .before .before .before .before .before .before .before .before .before .before .before .before .before .before .before .args .h) _ _ _ _ (c .before .before .before .before .before .wide .ensures .0 ∙ c .before .before .before .before .before .before .count .ensures) (l .few) (c .before .before .before .loop-test .taken))
 
 page-ok-child-ok-requires : (t : ℕ) → page-ok-lts.Need-child-ok-requires (page-ok-claims t) (page-ok-at t) page-ok.Post page-ok-Inv-loop page-ok-μ-loop
-page-ok-child-ok-requires t c κs = let a = c .before .before .before .before .before .before .before .before .before .before .before .before .before .before .before .before .before .before .before in let m = a .pre .0 in let l = c .before .before .before .before .before .before .before .before .before .if2 .left in (omega (arith, m, l), (walk-on (a .pre .1) _ _ (c .before .before .before .before .before .before .loop .inv .1 ∙ c .before .before .before .before .before .before .before .before .before .before .before .before .before .enter .kept .1 .0) (c .before .before .before .before .before .before .loop .inv .0 .turned .marked) (c .before .before .before .before .before .before .loop .inv .0 .turned .carried), omega (arith, l)))
+page-ok-child-ok-requires t c κs = let m = c .before .before .before .before .before .before .before .before .before .before .before .before .before .before .before .before .before .before .before .pre .0 in let l = c .before .before .before .before .before .before .before .before .before .if2 .left in let inv = c .before .before .before .before .before .before .loop .inv in (omega (arith, m, l), (walk-on (met t (c .before .before .before .before .before .before .before .before .before .before)) _ _ (inv .1) (inv .0 .turned .marked) (inv .0 .turned .carried), omega (arith, l)))
 
 page-ok-same-length-4 : (t : ℕ) → page-ok-lts.Need-same-length-4 (page-ok-claims t) (page-ok-at t) page-ok.Post page-ok-Inv-loop page-ok-μ-loop
-page-ok-same-length-4 t c = c .before .before .before .before .child-ok .kept .1 .1 .1 .0 ∙ c .before .before .before .before .before .before .before .before .before .before .before .loop .inv .1 ∙ c .before .before .before .before .before .before .before .before .before .before .before .before .before .before .before .before .before .before .enter .kept .1 .0
+page-ok-same-length-4 t c = c .before .before .before .before .child-ok .kept .1 .1 .1 .0 ∙ c .before .before .before .before .before .before .before .before .before .before .before .loop .inv .1 ∙ met-long (met t (c .before .before .before .before .before .before .before .before .before .before .before .before .before .before .before))
 
 page-ok-returns-4 : (t : ℕ) → page-ok-lts.Need-returns-4 (page-ok-claims t) (page-ok-at t) page-ok.Post page-ok-Inv-loop page-ok-μ-loop
-page-ok-returns-4 t c = walked-row-no (c .before .before .before .before .before .before .before .before .before .before .before .before .before .before .before .before .before .before .before .before .before .before .before .before .pre .1 .long) (c .before .before .before .before .before .before .before .before .before .before .before .before .before .before .before .before .before .before .enter .ensures) (not-false _ (c .before .before .before .before .before .before .before .before .before .before .before .before .before .before .before .if1 .left)) (not-true _ (c .if4 .taken)) (row-entry (c .before .before .before .before .before .before .before .before .before .before .before .loop .inv .0) (c .before .before .before .before .before .before .before .before .before .before .loop-test .taken) ((walked-at (entryAt (c .before .before .before .before .before .before .before .before .before .before .before .before .before .before .before .before .before .before .before .before .before .before .before .before .args .h) (c .before .before .before .before .before .before .before .before .before .before .before .before .before .before .before .before .before .before .before .before .before .before .before .before .args .index .now) (c .before .before .before .before .before .before .before .before .before .before .before .before .before .before .before .before .before .before .before .before .before .before .before .before .args .page .0) _) (c .before .before .before .before .before .before .before .before .before .depth .ensures) (c .before .before .before .before .before .before .child .ensures) (c .before .before .before .before .child-ok .ensures)) .scanned) (not-true _ (c .if4 .taken)))
+page-ok-returns-4 t c = let a = c .before .before .before .before .before .before .before .before .before .before .before .before .before .before .before .before .before .before .before .before .before .before .before .before .args in walked-row-no (met t (c .before .before .before .before .before .before .before .before .before .before .before .before .before .before .before)) (not-true _ (c .if4 .taken))
+    (row-entry (c .before .before .before .before .before .before .before .before .before .before .before .loop .inv .0) (c .before .before .before .before .before .before .before .before .before .before .loop-test .taken) (walked-at (entryAt (a .h) (a .index .now) (a .page .0) _) (c .before .before .before .before .before .before .before .before .before .depth .ensures) (c .before .before .before .before .before .before .child .ensures) (c .before .before .before .before .child-ok .ensures) .scanned) (not-true _ (c .if4 .taken)))
 
 page-ok-add-i : (t : ℕ) → page-ok-lts.Need-add-i (page-ok-claims t) (page-ok-at t) page-ok.Post page-ok-Inv-loop page-ok-μ-loop
 page-ok-add-i t c = search needs
@@ -154,13 +160,16 @@ page-ok-loop-less : (t : ℕ) → page-ok-lts.Need-loop-less (page-ok-claims t) 
 page-ok-loop-less t c = search needs
 
 page-ok-loop-again : (t : ℕ) → page-ok-lts.Need-loop-again (page-ok-claims t) (page-ok-at t) page-ok.Post page-ok-Inv-loop page-ok-μ-loop
-page-ok-loop-again t c = let x = (walked-at (entryAt (c .before .before .before .before .before .before .before .before .before .before .before .before .before .before .before .before .before .before .before .before .before .before .before .before .before .args .h) (c .before .before .before .before .before .before .before .before .before .before .before .before .before .before .before .before .before .before .before .before .before .before .before .before .before .args .index .now) (c .before .before .before .before .before .before .before .before .before .before .before .before .before .before .before .before .before .before .before .before .before .before .before .before .before .args .page .0) _) (c .before .before .before .before .before .before .before .before .before .before .depth .ensures) (c .before .before .before .before .before .before .before .child .ensures) (c .before .before .before .before .before .child-ok .ensures)) in (row-more (c .before .before .before .before .before .before .before .before .before .before .before .before .loop .inv .0) (c .before .before .before .before .before .before .before .before .before .before .before .loop-test .taken) (x .scanned) (not-false _ (c .before .if4 .left)) _ (c .before .before .before .before .before .before .before .before .before .before .depth .ensures) (sym (c .before .before .before .before .before .before .before .before .before .closes .ensures) ∙ not-false _ (c .before .before .before .before .before .before .before .before .if3 .left)) _ (x .marks (not-false _ (c .before .if4 .left))), c .before .before .before .before .before .child-ok .kept .1 .1 .1 .0 ∙ c .before .before .before .before .before .before .before .before .before .before .before .before .loop .inv .1)
+page-ok-loop-again t c = let a = c .before .before .before .before .before .before .before .before .before .before .before .before .before .before .before .before .before .before .before .before .before .before .before .before .before .args in let x = walked-at (entryAt (a .h) (a .index .now) (a .page .0) _) (c .before .before .before .before .before .before .before .before .before .before .depth .ensures) (c .before .before .before .before .before .before .before .child .ensures) (c .before .before .before .before .before .child-ok .ensures) in let o = not-false _ (c .before .if4 .left) in (
+  row-more (c .before .before .before .before .before .before .before .before .before .before .before .before .loop .inv .0) (c .before .before .before .before .before .before .before .before .before .before .before .loop-test .taken) (x .scanned) o _ (c .before .before .before .before .before .before .before .before .before .before .depth .ensures) (sym (c .before .before .before .before .before .before .before .before .before .closes .ensures) ∙ not-false _ (c .before .before .before .before .before .before .before .before .if3 .left)) _ (x .marks o),
+  c .before .before .before .before .before .child-ok .kept .1 .1 .1 .0 ∙ c .before .before .before .before .before .before .before .before .before .before .before .before .loop .inv .1,
+)
 
 page-ok-same-length-5 : (t : ℕ) → page-ok-lts.Need-same-length-5 (page-ok-claims t) (page-ok-at t) page-ok.Post page-ok-Inv-loop page-ok-μ-loop
-page-ok-same-length-5 t c = c .before .loop .inv .1 ∙ c .before .before .before .before .before .before .before .before .enter .kept .1 .0
+page-ok-same-length-5 t c = c .before .loop .inv .1 ∙ met-long (met t (c .before .before .before .before .before))
 
 page-ok-returns-5 : (t : ℕ) → page-ok-lts.Need-returns-5 (page-ok-claims t) (page-ok-at t) page-ok.Post page-ok-Inv-loop page-ok-μ-loop
-page-ok-returns-5 t c = walked-row (c .before .before .before .before .before .before .before .before .before .before .before .before .before .before .pre .1 .long) (c .before .before .before .before .before .before .before .before .enter .ensures) (not-false _ (c .before .before .before .before .before .if1 .left)) (row-all (c .before .loop .inv .0) (c .loop-test .left)) (λ o. row-marks (c .before .loop .inv .0) (c .loop-test .left))
+page-ok-returns-5 t c = walked-row (met t (c .before .before .before .before .before)) (row-all (c .before .loop .inv .0) (c .loop-test .left)) (λ o. row-marks (c .before .loop .inv .0) (c .loop-test .left))
 
 pub +child-ok+page-ok-spec : {M : Type 1} → statement M
 +child-ok+page-ok-spec = close μ-child-ok μ-page-ok (λ t. child-ok-lts.spec (child-ok-claims t)

@@ -1,4 +1,7 @@
 -- A page that is sized and not marked is marked. Assumes nothing.
+use mathlib.Core.Path.{ap}
+use Prim.Native.Nat.{ℕ}
+use lib.ListN.{getD}
 use native.Mathlib.Omega.{arith}
 use borrow.Author.Tests.{not-true, not-false}
 use Rattle.table_check.proofs.Iff.{said-no}
@@ -20,7 +23,7 @@ slice-read-if2 : tie.Need-slice-read-if2
 slice-read-if2 c = let s = c .before .before .before .sized .ensures .0 (not-false _ (c .before .before .if1 .left)) in omega (arith, c .before .wide16 .ensures .0, c .before .before .before .before .before .before .pre .1, s .number)
 
 returns-2 : tie.Need-returns-2
-returns-2 c = entered-no _ _ _ _ _ _ (λ s z. c .if2 .taken (rw (c .before .before .wide16 .ensures .0) z))
+returns-2 c = entered-no _ _ _ _ _ _ (λ s z. let m = ap (λ (k : ℕ). getD (c .before .before .before .before .before .before .before .args .map .now) k 0) (c .before .before .wide16 .ensures .0) in omega (arith, c .if2 .taken, m, z))
 
 slice-write-map : tie.Need-slice-write-map
 slice-write-map c = let s = c .before .before .before .before .sized .ensures .0 (not-false _ (c .before .before .before .if1 .left)) in omega (arith, c .before .before .wide16 .ensures .0, c .before .before .before .before .before .before .before .pre .1, s .number)
@@ -29,7 +32,7 @@ same-length : tie.Need-same-length
 same-length c = search needs
 
 returns-3 : tie.Need-returns-3
-returns-3 c = rw (c .before .before .wide16 .ensures .0) (entered-yes _ _ _ _ _ (c .before .before .before .before .sized .ensures .0 (not-false _ (c .before .before .before .if1 .left))) (rw (c .before .before .wide16 .ensures .0) at (c .if2 .left)))
+returns-3 c = let m = ap (λ (k : ℕ). getD (c .before .before .before .before .before .before .before .args .map .now) k 0) (c .before .before .wide16 .ensures .0) in rw (c .before .before .wide16 .ensures .0) (entered-yes _ _ _ _ _ (c .before .before .before .before .sized .ensures .0 (not-false _ (c .before .before .before .if1 .left))) (omega (arith, c .if2 .left, m)))
 
 pub enter-spec : {M : Type 1} → statement M
 enter-spec =

@@ -1,3 +1,4 @@
+-- What the pass has gathered of the records before i; at the end it is judged. Assumes nothing.
 use borrow.Author.Needs.{needs}
 use borrow.Author.Tests.{leb-true, leb-false}
 use mathlib.Core.Path.{sym, _∙_}
