@@ -1,8 +1,11 @@
 // The calls that only read.
 ghost use mathlib.Core.Path.{_≡_};
+ghost use mathlib.Core.Bool.{true};
+ghost use mathlib.Core.Logic.{_↔_};
 ghost use Prim.Native.Nat.{_≤_};
 ghost use lib.ListN.{length};
 ghost use Rattle.index_table.specs.Header.{widthOf};
+ghost use Rattle.index_table.specs.Soundness.{Sound};
 ghost use Rattle.tag_index.specs.Reading.{FindDoes};
 use table_calls::answer::Answer;
 
@@ -25,4 +28,11 @@ pub fn find(index: &[u8], keys: &[u64], used: &[u8], key: u64) -> Answer
         return Answer::plain(2);
     }
     table_calls::find::find_held(index, keys, used, key)
+}
+
+// Whether the tables are sound.
+pub fn check(index: &[u8], keys: &[u64], used: &[u8]) -> bool
+    ensures { λ r. ⌜ (r ≡ true) ↔ Sound (now (index .entry)) (now (keys .entry)) (now (used .entry)) ⌝ }
+{
+    table_check::check(index, keys, used)
 }

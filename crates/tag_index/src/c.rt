@@ -1,0 +1,36 @@
+// The calls as C calls them: each slice a pointer and a length.
+ghost use mathlib.Core.Path.{_≡_};
+ghost use mathlib.Core.Bool.{true};
+ghost use mathlib.Core.Logic.{_↔_};
+ghost use Rattle.index_table.specs.Soundness.{Sound};
+ghost use Rattle.tag_index.specs.Format.{FormatDoes};
+ghost use Rattle.tag_index.specs.Reading.{FindDoes};
+use table_calls::answer::Answer;
+
+#[no_mangle]
+pub extern "C" fn tag_index_format(
+    index: &mut [u8],
+    keys: &mut [u64],
+    used: &mut [u8],
+    w: u64,
+    e: u64,
+    p: u64,
+) -> Answer
+    ensures { λ r. ⌜ FormatDoes w e p (now (index .entry)) (now (keys .entry)) (now (used .entry)) (now (index .exit)) (now (keys .exit)) (now (used .exit)) r ⌝ }
+{
+    crate::format::format(index, keys, used, w, e, p)
+}
+
+#[no_mangle]
+pub extern "C" fn tag_index_find(index: &[u8], keys: &[u64], used: &[u8], key: u64) -> Answer
+    ensures { λ r. ⌜ FindDoes (now (index .entry)) (now (keys .entry)) (now (used .entry)) key r ⌝ }
+{
+    crate::read::find(index, keys, used, key)
+}
+
+#[no_mangle]
+pub extern "C" fn tag_index_check(index: &[u8], keys: &[u64], used: &[u8]) -> bool
+    ensures { λ r. ⌜ (r ≡ true) ↔ Sound (now (index .entry)) (now (keys .entry)) (now (used .entry)) ⌝ }
+{
+    crate::read::check(index, keys, used)
+}
