@@ -29,6 +29,7 @@ pub record-fits : (w : ℕ) (keyOf : ℕ → ℕ) (used : ℕ → Bool) (D τ d 
     → (u && k) ≡ pointerFits w keyOf used D τ d (recordOf 65535 p)
 record-fits w keyOf used D τ d p u k n h g = rw (ne-eqb p 65535 n, h, g)
 
+-- The pointer of a record that is not in use does not fit.
 pub record-free : (w : ℕ) (keyOf : ℕ → ℕ) (used : ℕ → Bool) (D τ d p : ℕ) → p ≢ 65535 → used p ≡ false → false ≡ pointerFits w keyOf used D τ d (recordOf 65535 p)
 record-free w keyOf used D τ d p n h = rw (ne-eqb p 65535 n, h)
 
@@ -43,6 +44,7 @@ isNil-record p = go (eqb p 65535)
 -- ---- an answer
 
 module _ {More : Type 0} {w : ℕ} {keys used : List ℕ} {held : ℕ} {s : Scan} {es : List Entry} where
+  -- No, where what is asked cannot all hold.
   pub scanned-no : (r : Checked) → r .ok ≡ false → (More → Passing w keys used held (stateOf s) es → ⊥) → Scanned More w keys used held s es r
   scanned-no r e h =
       record {
@@ -51,6 +53,7 @@ module _ {More : Type 0} {w : ℕ} {keys used : List ℕ} {held : ℕ} {s : Scan
         carried = λ t. absurd (true≢false (sym t ∙ e));
       }
 
+  -- Yes, with what is carried on.
   pub scanned-yes : (r : Checked) → r .ok ≡ true → More → Passing w keys used held (stateOf s) es → stateOf (r .scan) ≡ run w (keyAt keys) (inUse used) (stateOf s) es → Carried w held (r .scan)
       → Scanned More w keys used held s es r
   scanned-yes r o m h e b = record { verdict = ((λ t. (m, h)), (λ t. o)); state = λ t. e; carried = λ t. b }
@@ -64,16 +67,18 @@ module _ (w : ℕ) (keys used : List ℕ) (held : ℕ) (s : Scan) (d p : ℕ) wh
   abbrev Fits : Bool
   Fits = entryFits w (keyAt keys) (inUse used) (s .disc) (s .trail) (s .dummy) d (recordOf 65535 p)
 
-  -- Nothing fits behind the closing entry; an entry that does not fit; one that is live beyond the records held.
+  -- Nothing fits behind the closing entry.
   pub entry-closed : s .closed ≡ true → One (record { ok = false; scan = s })
   entry-closed h = scanned-no _ refl (λ m q. true≢false (sym (q .fits) ∙ ap (λ (b : Bool). not b && Fits) h))
 
+  -- An entry that does not fit is refused.
   pub entry-refused : s .closed ≡ false → Fits ≡ false → One (record { ok = false; scan = s })
   entry-refused h g = scanned-no _ refl (λ m q. true≢false (sym (q .fits) ∙ ap (λ (b : Bool). not b && Fits) h ∙ g))
 
   live-one : (b : Bool) → eqb p 65535 ≡ b → run w (keyAt keys) (inUse used) (stateOf s) (entry d (recordOf 65535 p) ∷ []) .live ≡ cond b (s .live) (suc (s .live))
   live-one b h = ap (λ (t : Bool). cond t (s .live) (suc (s .live))) (isNil-record p ∙ h)
 
+  -- An entry that is live beyond the records held is refused.
   pub entry-beyond : (not (eqb p 65535) && leb held (s .live)) ≡ true → One (record { ok = false; scan = s })
   entry-beyond h = scanned-no _ refl (λ m q. go (eqb p 65535) refl h (q .few))
     where
@@ -100,11 +105,13 @@ module _ (w : ℕ) (keys used : List ℕ) (held : ℕ) (s : Scan) (d p : ℕ) wh
         → stateOf (record { disc = disc; trail = d; dummy = eqb p 65535; live = live; closed = closed }) ≡ step w (keyAt keys) (inUse used) (stateOf s) (entry d (recordOf 65535 p))
     behind disc closed h g = rw (h, g, counted, all-fits, isNil-record p)
 
+    -- The closing entry, and what is carried behind it.
     pub entry-last : d ≡ 0 → One (record { ok = true; scan = record { disc = 0; trail = 0; dummy = eqb p 65535; live = live; closed = true } })
     entry-last z =
         scanned-yes _ refl tt one-passes (ap (λ (t : ℕ). stateOf (record { disc = 0; trail = t; dummy = eqb p 65535; live = live; closed = true })) (sym z)
         ∙ behind 0 true (rw (eq-eqb d 0 z)) (rw (eq-eqb d 0 z))) (record { disc = pow-pos w; trail = omega arith; live = live-few })
 
+    -- Any other entry, and what is carried behind it.
     pub entry-next : d ≢ 0 → (disc : ℕ) → disc ≡ setBitAt w d (s .disc) → disc < 2 ^ w → One (record { ok = true; scan = record { disc = disc; trail = d; dummy = eqb p 65535; live = live; closed = false } })
     entry-next n disc e l =
         scanned-yes _ refl tt one-passes (behind disc false (rw (ne-eqb d 0 n) e) (rw (ne-eqb d 0 n)))

@@ -46,12 +46,15 @@ module _ (index : List ℕ) (records : ℕ) where
     size-read : pageStart (layoutOf (h .entries)) (h .pages) ≡ pageStart (layoutOf (entriesOf index)) (pagesOf index)
     size-read = ap₂ (λ (e p : ℕ). pageStart (layoutOf e) p) (r .entries) (r .pages)
 
+    -- Numbers outside their limits.
     pub header-limits : (Limits (h .width) (h .entries) (h .pages) records → ⊥) → HeaderFits index records → ⊥
     header-limits n f = n (limits-read .1 (f .limits))
 
+    -- A table of another length.
     pub header-length : (size : ℕ) → size ≡ pageStart (layoutOf (h .entries)) (h .pages) → (length index ≡ size → ⊥) → HeaderFits index records → ⊥
     header-length size e n f = n (f .table ∙ sym (e ∙ size-read))
 
+    -- All else in order, the spare bytes decide.
     pub header-spare : (size : ℕ) → size ≡ pageStart (layoutOf (h .entries)) (h .pages) → 16 ≤ length index → Limits (h .width) (h .entries) (h .pages) records → length index ≡ size
         → ZeroBetween 8 16 index ↔ HeaderFits index records
     header-spare size e s l g = (

@@ -3,9 +3,11 @@ use mathlib.Core.Path.{_≡_, refl, sym, _∙_}
 use mathlib.Core.Logic.{_↔_}
 use mathlib.Core.Bool.{Bool, true, false, true≢false}
 
+-- No, where the thing cannot be.
 pub iff-no : {A : Type 0} → (A → ⊥) → (false ≡ true) ↔ A
 iff-no h = ((λ t. absurd (true≢false (sym t))), (λ a. absurd (h a)))
 
+-- Yes, where the thing is.
 pub iff-yes : {A : Type 0} → A → (true ≡ true) ↔ A
 iff-yes a = ((λ t. a), (λ b. refl))
 

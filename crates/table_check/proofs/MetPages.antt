@@ -32,9 +32,11 @@ module _ (h : Index) (index : List ℕ) (level page : ℕ) where
   abbrev bytes : List ℕ
   bytes = pageBytes (layoutOf (h .entries)) index page
 
+  -- A page with no entries has not the size of a page in use.
   pub sized-empty : (n : ℕ) → n ≡ countOf bytes → n ≡ 0 → Sized → ⊥
   sized-empty n e z s = omega (arith, s .some, length-refs (layoutOf (h .entries)) bytes)
 
+  -- A page of its number and level, by the test of its count.
   pub sized-few : (n : ℕ) → page < h .pages → levelOf bytes ≡ level → n ≡ countOf bytes → (n ≡ 0 → ⊥) → (leb n (h .entries) ≡ true) ↔ Sized
   sized-few n p l e z = (
     (λ t.
@@ -46,9 +48,11 @@ module _ (h : Index) (index : List ℕ) (level page : ℕ) where
 
   -- ---- its mark
 
+  -- A page that is not of its size, or is marked, is refused.
   pub entered-no : (map map′ : List ℕ) → (Sized → getD map page 0 ≡ 0 → ⊥) → Entered h index level page map map′ false
   entered-no map map′ f = record { verdict = iff-no (λ a. f (a .0) (a .1)); marks = λ t. absurd (true≢false (sym t)) }
 
+  -- Any other page is marked.
   pub entered-yes : (map : List ℕ) → Sized → getD map page 0 ≡ 0 → Entered h index level page map (set map page 1) true
   entered-yes map s z = record { verdict = iff-yes (s, z); marks = λ t. refl }
 
@@ -62,6 +66,7 @@ set-mark map p q l z = go (same-cases p q)
 
 -- ---- its row
 
+-- A row that is not empty ends in c exactly if c closes it.
 pub ends-closed : (c : ℕ) (row : List Ref) → 1 ≤ length row → Ends c row ↔ Closed (λ (y : Ref). y .0) c row
 ends-closed c [] l = absurd (omega arith)
 ends-closed c (x ∷ []) l = ((λ e. e), (λ e. e))
@@ -75,6 +80,7 @@ unfolding met
 no-pages pages [] q = refl
 no-pages pages (x ∷ row) q = omega (arith, no-pages pages row q)
 
+-- The answer on a row of leaves is the same with any marks.
 pub leaf-row : {h : Index} {index keys used : List ℕ} {c : ℕ} {row : List Ref} {s : Scan} {r : Checked} (map : List ℕ) → ((q : ℕ) → getD map q 0 ≤ 1)
     → Scanned (RowSound h index c 0 row []) (h .width) keys used (h .held) s (leavesOfRow 0 (rowsOf h index) row) r
     → Scanned (RowSound h index c 0 row map) (h .width) keys used (h .held) s (leavesOfRow 0 (rowsOf h index) row) r
@@ -131,6 +137,7 @@ pub record MetPage (h : Index) (index keys used : List ℕ) (n page : ℕ) (map 
   pub unmarked : getD map page 0 ≡ 0
   pub marks : map₁ ≡ set map page 1
 
+-- It was met, as the test of it says.
 pub met-page : {h : Index} {index keys used : List ℕ} {n page : ℕ} {map map₁ : List ℕ} {s : Scan} {b : Bool} → WalkPre h index keys used map s → Entered h index n page map map₁ b → b ≡ true
     → MetPage h index keys used n page map map₁ s
 met-page w e z = record { pre = w; size = e .verdict .0 z .0; unmarked = e .verdict .0 z .1; marks = e .marks z }
@@ -139,7 +146,7 @@ module _ {h : Index} {index keys used : List ℕ} {n page : ℕ} {map map₁ : L
   inside : page < length map
   inside = omega (arith, m .size .number, m .pre .long)
 
-  -- Every mark is 0 or 1 still, and the map as long.
+  -- Every mark is 0 or 1 still.
   pub met-marked : (q : ℕ) → getD map₁ q 0 ≤ 1
   met-marked q = rw (m .marks) (go (same-cases page q))
     where
@@ -147,10 +154,11 @@ module _ {h : Index} {index keys used : List ℕ} {n page : ℕ} {map map₁ : L
       go (inl y) = rw (← y) (omega (arith, getD-set-same map page 1 0 inside))
       go (inr y) = omega (arith, m .pre .marked q, getD-set-other map page q 1 0 (λ x. y .0 (sym x)))
 
+  -- The map is as long as before.
   pub met-long : length map₁ ≡ length map
   met-long = ap length (m .marks) ∙ length-set map page 1
 
-  -- What the checks of its row take.
+  -- What the check of a row of leaves takes.
   pub leaves-pre : LeavesPre h index keys used page s
   leaves-pre =
       record {
@@ -161,12 +169,14 @@ module _ {h : Index} {index keys used : List ℕ} {n page : ℕ} {map map₁ : L
         carried = m .pre .carried;
       }
 
+  -- What the check of a child takes.
   pub walk-on : (map′ : List ℕ) (s′ : Scan) → length map′ ≡ length map₁ → ((q : ℕ) → getD map′ q 0 ≤ 1) → Carried (h .width) (h .held) s′ → WalkPre h index keys used map′ s′
   walk-on map′ s′ l k b =
       record { table = m .pre .table; width = m .pre .width; register = m .pre .register; carried = b; long = omega (arith, m .pre .long, met-long); marked = k }
 
   -- By the answer on its row.
   module _ {c : ℕ} where
+    -- The answer on its row is the answer on the page.
     pub walked-row : {map′ : List ℕ} {r : Checked}
         → Scanned (RowSound h index c n (rowsOf h index page) map₁) (h .width) keys used (h .held) s (leavesOfRow n (rowsOf h index) (rowsOf h index page)) r
         → (r .ok ≡ true → (q : ℕ) → getD map′ q 0 ≡ getD map₁ q 0 + metAll n (rowsOf h index) (rowsOf h index page) q)
@@ -188,6 +198,7 @@ module _ {h : Index} {index keys used : List ℕ} {n page : ℕ} {map map₁ : L
         row : EntrySound h index (suc n) (c, page) map ↔ (SizedPage (layoutOf (h .entries)) (h .pages) n index page × (getD map page 0 ≡ 0) × RowSound h index c n (rowsOf h index page) (set map page 1))
         row = page-row h index n page c map (m .pre .long)
 
+    -- So is an answer of no, whatever the marks.
     pub walked-row-no : {map′ : List ℕ} {r : Checked} → r .ok ≡ false
         → Scanned (RowSound h index c n (rowsOf h index page) map₁) (h .width) keys used (h .held) s (leavesOfRow n (rowsOf h index) (rowsOf h index page)) r
         → Walked h index keys used (suc n) (c, page) map map′ s r
@@ -202,11 +213,12 @@ module _ {h : Index} {index keys used : List ℕ} {n page : ℕ} {map map₁ : L
         (subst (λ (k : ℕ). Scanned (RowSound h index c k (rowsOf h index page) map₁) (h .width) keys used (h .held) s (leavesOfRow k (rowsOf h index) (rowsOf h index page)) r) (sym y) (leaf-row map₁ met-marked a))
         (λ o q. omega (arith, no-pages (rowsOf h index) (rowsOf h index page) q, ap (λ (k : ℕ). metAll k (rowsOf h index) (rowsOf h index page) q) y))
 
--- An entry by its parts, and by its rank.
+-- An entry by its parts.
 pub walked-at : {h : Index} {index keys used : List ℕ} {n : ℕ} {map map′ : List ℕ} {s : Scan} {r : Checked} (x : Ref) {d p : ℕ} → d ≡ x .0 → p ≡ x .1
     → Walked h index keys used n (d, p) map map′ s r → Walked h index keys used n x map map′ s r
 walked-at {h} {index} {keys} {used} {n} {map} {map′} {s} {r} x e f w = subst (λ (y : Ref). Walked h index keys used n y map map′ s r) (ap₂ (λ (a b : ℕ). (a, b)) e f) w
 
+-- An entry by its rank.
 pub walked-lower : {h : Index} {index keys used : List ℕ} {map map′ : List ℕ} {s : Scan} {r : Checked} {x : Ref} (n : ℕ) → 0 < n
     → Walked h index keys used (suc (n - 1)) x map map′ s r → Walked h index keys used n x map map′ s r
 walked-lower n l w = let e : suc (n - 1) ≡ n = omega arith in rw e at w

@@ -56,6 +56,7 @@ abbrev pub last : List Ref → Bool
 last [] = true
 last (y ∷ ys) = false
 
+-- A row ends in c exactly if its first depth passes the test and the rest ends in c.
 pub ends-cons : (c : ℕ) (x : Ref) (rest : List Ref) → Ends c (x ∷ rest) ↔ ((cond (last rest) (eqb (x .0) c) (ltb c (x .0)) ≡ true) × Ends c rest)
 ends-cons c x [] = ((λ h. (eq-eqb (x .0) c h, tt)), (λ h. eqb-true (x .0) c (h .0)))
 ends-cons c x (y ∷ ys) = ((λ h. (lt-ltb c (x .0) (h .0), h .1)), (λ h. (ltb-true c (x .0) (h .0), h .1)))
@@ -73,6 +74,7 @@ module _ (h : Index) (index keys used : List ℕ) (c n : ℕ) where
     pub carried : Carried (h .width) (h .held) s
 
 module _ {h : Index} {index keys used : List ℕ} {c n : ℕ} where
+  -- Before the first turn all is left.
   pub turned-none : (row : List Ref) (map : List ℕ) (s : Scan) → ((q : ℕ) → getD map q 0 ≤ 1) → Carried (h .width) (h .held) s → Turned h index keys used c n row map s row map s
   turned-none row map s m k = record { same = ((λ z. z), (λ z. z)); state = refl; marks = λ q. refl; marked = m; carried = k }
 
@@ -103,11 +105,12 @@ module _ {h : Index} {index keys used : List ℕ} {c n : ℕ} where
             → RowSound h index c n (x ∷ rest) map × Passing (h .width) keys used (h .held) (stateOf s) (leavesOfRow n (rowsOf h index) (x ∷ rest))
         fro a = (record { ends = ends-cons c x rest .1 (d, a .0 .ends); sound = (e .sound, a .0 .sound); once = λ q. omega (arith, a .0 .once q, m q) }, pass .1 (a .1))
 
-    -- A depth out of place; an entry that is not in order.
+    -- A depth out of place: the row is not in order.
     pub turned-depth : cond (last rest) (eqb (x .0) c) (ltb c (x .0)) ≡ false
         → RowSound h index c n row map₀ → Passing (h .width) keys used (h .held) (stateOf s₀) (leavesOfRow n (rowsOf h index) row) → ⊥
     turned-depth d a p = true≢false (sym (ends-cons c x rest .0 (t .same .0 (a, p) .0 .ends) .0) ∙ d)
 
+    -- An entry that is not in order: nor is the row.
     pub turned-entry : (EntrySound h index n x map → Passing (h .width) keys used (h .held) (stateOf s) (leavesBelow n (rowsOf h index) x) → ⊥)
         → RowSound h index c n row map₀ → Passing (h .width) keys used (h .held) (stateOf s₀) (leavesOfRow n (rowsOf h index) row) → ⊥
     turned-entry f a p =
@@ -117,9 +120,11 @@ module _ {h : Index} {index keys used : List ℕ} {c n : ℕ} where
 
   -- Nothing is left.
   module _ {row : List Ref} {map₀ : List ℕ} {s₀ : Scan} {map : List ℕ} {s : Scan} (t : Turned h index keys used c n row map₀ s₀ [] map s) where
+    -- The row is in order.
     pub turned-all : RowSound h index c n row map₀ × Passing (h .width) keys used (h .held) (stateOf s₀) (leavesOfRow n (rowsOf h index) row)
     turned-all = t .same .1 (record { ends = tt; sound = tt; once = λ q. omega (arith, t .marked q) }, record { fits = refl; few = t .carried .live })
 
+    -- The marks count the pages met below the row.
     pub turned-marks : (q : ℕ) → getD map q 0 ≡ getD map₀ q 0 + metAll n (rowsOf h index) row q
     turned-marks q = omega (arith, t .marks q)
 
@@ -136,6 +141,7 @@ entriesFrom h index page count i = table (entryAt h index page) i (count - i)
 pub entry-few : (h : Index) (index : List ℕ) (page count i : ℕ) → count ≡ countOf (pageBytes (layoutOf (h .entries)) index page) → length (rowsOf h index page) ≤ h .entries → i < count → i < h .entries
 entry-few h index page count i e f l = omega (arith, length-refs (layoutOf (h .entries)) (pageBytes (layoutOf (h .entries)) index page))
 
+-- The last entry of n is the one before place n.
 pub last-entry : (f : ℕ → Ref) (i n : ℕ) → i < n → last (table f (i + 1) (n - (i + 1))) ≡ eqb (i + 1) n
 unfolding table
 last-entry f i n l = go (n - (i + 1)) refl
@@ -151,6 +157,7 @@ module _ (h : Index) (index keys used : List ℕ) (page c n : ℕ) where
     pub turned : Turned h index keys used c n (rowsOf h index page) map₀ s₀ (entriesFrom h index page count i) map s
 
 module _ {h : Index} {index keys used : List ℕ} {page c n : ℕ} where
+  -- Before the first entry.
   pub row-start : (count : ℕ) (map : List ℕ) (s : Scan) → count ≡ countOf (pageBytes (layoutOf (h .entries)) index page) → ((q : ℕ) → getD map q 0 ≤ 1) → Carried (h .width) (h .held) s → RowTurn h index keys used page c n count map s map s 0
   unfolding refsOf
   row-start count map s e m k =
@@ -172,13 +179,16 @@ module _ {h : Index} {index keys used : List ℕ} {page c n : ℕ} where
     abbrev Refused : Checked → Type 0
     Refused r = Scanned (RowSound h index c n (rowsOf h index page) map₀) (h .width) keys used (h .held) s₀ (leavesOfRow n (rowsOf h index) (rowsOf h index page)) r
 
+    -- Entry i has a depth out of place: no.
     pub row-depth : (d : ℕ) → d ≡ entryAt h index page i .0 → cond (eqb (i + 1) count) (eqb d c) (ltb c d) ≡ false → (r : Checked) → r .ok ≡ false → Refused r
     row-depth d e z r o = scanned-no r o (turned-depth here (sym (test d e) ∙ z))
 
     module _ {r : Checked} (a : Scanned (EntrySound h index n (entryAt h index page i) map) (h .width) keys used (h .held) s (leavesBelow n (rowsOf h index) (entryAt h index page i)) r) where
+      -- Entry i is not in order: no.
       pub row-entry : r .ok ≡ false → Refused r
       row-entry o = scanned-no r o (turned-entry here (λ e p. true≢false (sym (a .verdict .1 (e, p)) ∙ o)))
 
+      -- Entry i is in order.
       pub row-more : r .ok ≡ true → (d : ℕ) → d ≡ entryAt h index page i .0 → cond (eqb (i + 1) count) (eqb d c) (ltb c d) ≡ true
           → (map′ : List ℕ) → ((q : ℕ) → getD map′ q 0 ≡ getD map q 0 + met n (rowsOf h index) (entryAt h index page i) q) → RowTurn h index keys used page c n count map₀ s₀ map′ (r .scan) (i + 1)
       row-more o d e z map′ m =
@@ -191,9 +201,11 @@ module _ {h : Index} {index keys used : List ℕ} {page c n : ℕ} where
     done =
         subst (λ (r : List Ref). Turned h index keys used c n (rowsOf h index page) map₀ s₀ r map s) (ap (table (entryAt h index page) i) (let z : count - i ≡ 0 = omega arith in z)) (t .turned)
 
+    -- Yes, with the state behind the row.
     pub row-all : Scanned (RowSound h index c n (rowsOf h index page) map₀) (h .width) keys used (h .held) s₀ (leavesOfRow n (rowsOf h index) (rowsOf h index page)) (record { ok = true; scan = s })
     row-all = let a = turned-all done in scanned-yes _ refl (a .0) (a .1) (sym (done .state)) (done .carried)
 
+    -- And the marks of all pages below it.
     pub row-marks : (q : ℕ) → getD map q 0 ≡ getD map₀ q 0 + metAll n (rowsOf h index) (rowsOf h index page) q
     row-marks = turned-marks done
 
@@ -212,6 +224,7 @@ leaf-sound {h} {index} {keys} {used} {s} {r} x w held d p a b e f z =
       carried = y .carried;
     }
 
+-- So an entry on level 0 leaves no mark.
 pub leaf-marks : (pages : Pages) (x : Ref) (q : ℕ) → getD [] q 0 ≡ getD [] q 0 + met 0 pages x q
 unfolding met
 leaf-marks pages x q = omega arith

@@ -48,19 +48,22 @@ same-index : {w w′ e e′ p p′ o o′ k k′ : ℕ} → w ≡ w′ → e ≡
     → _≡_ {A = Index} (record { width = w; entries = e; pages = p; root = record { 0 = o }; held = k }) (record { width = w′; entries = e′; pages = p′; root = record { 0 = o′ }; held = k′ })
 same-index a b c d f = rw (a, b, c, d, f)
 
+-- They are what was read from it.
 pub index-read : (b : List ℕ) (h : Index) → IndexOf b h → indexOf b ≡ h
 index-read b h r = same-index (sym (r .width)) (sym (r .entries)) (sym (r .pages)) (sym (r .root)) (sym (r .held))
 
 -- ---- the parts together
 
 module _ (index keys used : List ℕ) where
+  -- The header of sound tables is in order.
   pub sound-header : Sound index keys used → HeaderFits index (length used)
   sound-header s = record { limits = s .limits; table = s .lengths .table; spare = s .spare }
 
-  -- Tables whose records are not sound, and those whose header does not say how many are held.
+  -- Records that are not sound.
   pub unsound-records : {w : ℕ} → w ≡ widthOf index → (SoundRecords w keys used → ⊥) → Sound index keys used → ⊥
   unsound-records e n s = n (rw e (s .register .records))
 
+  -- A header that does not say how many records are in use.
   pub unsound-held : {held : ℕ} → held ≡ heldOf index → (countInUse used ≡ held → ⊥) → Sound index keys used → ⊥
   unsound-held e n s = n (sym (s .held) ∙ sym e)
 
@@ -93,8 +96,10 @@ module _ (index keys used : List ℕ) where
             (sym held) (check-law (widthOf index) keys used (narrow-records (widthOf index) keys used records) (leafEntries index))
 
     module _ (h : Index) (r : IndexOf index h) where
+      -- What the check of the tree takes.
       pub tree-pre : TreePre h index keys used
       tree-pre = subst (λ (i : Index). TreePre i index keys used) (index-read index h r) read-pre
 
+      -- The pages decide.
       pub sound-pages : h .held ≡ countInUse used → PagesSound h index keys used ↔ Sound index keys used
       sound-pages held = subst (λ (i : Index). PagesSound i index keys used ↔ Sound index keys used) (index-read index h r) (read-sound (sym (r .held) ∙ held))

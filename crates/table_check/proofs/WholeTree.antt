@@ -41,6 +41,7 @@ module _ (L : Layout) (P : ℕ) (b : List ℕ) (q : ℕ) where
       go zero e g = g (omega arith)
       go (suc k) e g = f x (s .0) (omega arith)
 
+  -- So it is for every page met.
   pub met-few : (n : ℕ) (x : Ref) → SoundBelow L P n b x → 1 ≤ met n (pagesAt L b) x q → Few
   unfolding met
   met-few zero x s m = absurd (omega arith)
@@ -70,6 +71,7 @@ no-marks (suc n) (suc q) = no-marks n q
 abbrev startScan : Scan
 startScan = record { disc = 0; trail = 0; dummy = false; live = 0; closed = false }
 
+-- What the check of the root takes.
 pub walk-start : (h : Index) (index keys used map : List ℕ) → TreePre h index keys used → h .pages ≤ length map → ((q : ℕ) → getD map q 0 ≡ 0) → WalkPre h index keys used map startScan
 walk-start h index keys used map p l z =
     record {
@@ -86,7 +88,7 @@ module _ {h : Index} {index keys used : List ℕ} {level : ℕ} {map map′ : Li
   abbrev end : State
   end = run (h .width) (keyAt keys) (inUse used) start (leavesBelow (suc level) (rowsOf h index) (rootRef (h .root .0)))
 
-  -- A tree that is sound is walked to its end, and the list is closed with as many live entries as records held.
+  -- A tree that is sound is walked to its end.
   pub tree-walked : TreeSound h index keys used level → r .ok ≡ true
   tree-walked t =
       w .scanned .verdict .1 (
@@ -98,10 +100,12 @@ module _ {h : Index} {index keys used : List ℕ} {level : ℕ} {map map′ : Li
       )
 
   module _ (o : r .ok ≡ true) where
+    -- Its list is closed.
     pub tree-closed : TreeSound h index keys used level → r .scan .closed ≡ true
     tree-closed t =
         ap (λ (s : State). s .closed) (w .scanned .state o) ∙ and-eq-true-iff (end .fits) (end .closed) .0 (and-eq-true-iff (end .fits && end .closed) (eqb (end .live) (h .held)) .0 (t .leaves) .0) .1
 
+    -- It has as many live entries as records are held.
     pub tree-live : TreeSound h index keys used level → r .scan .live ≡ h .held
     tree-live t =
         ap (λ (s : State). s .live) (w .scanned .state o) ∙ eqb-true (end .live) (h .held) (and-eq-true-iff (end .fits && end .closed) (eqb (end .live) (h .held)) .0 (t .leaves) .1)
@@ -109,9 +113,11 @@ module _ {h : Index} {index keys used : List ℕ} {level : ℕ} {map map′ : Li
     marks : (q : ℕ) → getD map′ q 0 ≡ met (suc level) (rowsOf h index) (rootRef (h .root .0)) q
     marks q = omega (arith, w .scanned .verdict .0 o .0 .once q, w .marks o q, unmarked q)
 
+    -- Every mark is 0 or 1.
     pub marks-small : (q : ℕ) → getD map′ q 0 ≤ 1
     marks-small q = omega (arith, marks q, w .scanned .verdict .0 o .0 .once q)
 
+    -- A page that is marked has no more entries than a page may hold.
     pub marks-few : (q : ℕ) → getD map′ q 0 ≡ 1 → length (rowsOf h index q) ≤ h .entries
     marks-few q e = met-few (layoutOf (h .entries)) (h .pages) index q (suc level) (rootRef (h .root .0)) (w .scanned .verdict .0 o .0 .sound) (omega (arith, marks q)) .1
 
@@ -157,7 +163,7 @@ root-entries h index level n a b e =
     ((λ t. (a, λ k. let g = leb-true 2 n t in omega arith)), (λ f. le-leb 2 n (omega (arith, f .1 (omega arith)))))
 
 module _ (h : Index) (index keys used : List ℕ) where
-  -- A root that is no page, or may not stand where it does.
+  -- A root that is no page.
   pub root-beyond : h .pages ≤ h .root .0 → PagesSound h index keys used → ⊥
   root-beyond l p = omega (arith, p .pages .below .0 .number)
 
@@ -165,9 +171,11 @@ module _ (h : Index) (index keys used : List ℕ) where
     abbrev RootFits : Type 0
     RootFits = (level ≤ 15) × (1 ≤ level → 2 ≤ length (rowsOf h index (h .root .0)))
 
+    -- A root that may not stand where it does.
     pub root-refused : (RootFits → ⊥) → PagesSound h index keys used → ⊥
     root-refused n p = n (omega (arith, p .pages .level-high), λ l. p .pages .root-rule (omega arith))
 
+    -- Any other root: the tree below it decides.
     pub root-sound : RootFits → TreeSound h index keys used level ↔ PagesSound h index keys used
     root-sound f =
         subst (λ (k : ℕ). (k ≤ 15) × (1 ≤ k → 2 ≤ length (rowsOf h index (h .root .0))) → TreeSound h index keys used k ↔ PagesSound h index keys used) (sym e) go f

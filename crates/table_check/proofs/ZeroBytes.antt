@@ -36,6 +36,7 @@ module _ (b : List ℕ) (i n k : ℕ) (within : i + n ≤ length b) where
   unfolding part
   part-byte j l = getD-drop k (take n (drop i b)) j 0 ∙ getD-take n (drop i b) (k + j) 0 (omega arith) ∙ getD-drop i b (k + j) 0
 
+  -- It is all zero exactly if the table is between its ends.
   pub zero-part : AllZero (drop k (take n (drop i b))) ↔ ZeroBetween (i + k) (i + n) b
   unfolding part
   zero-part = (
@@ -63,17 +64,20 @@ module _ (h : Index) (index : List ℕ) (page : ℕ) where
   rows : length (rowsOf h index page) ≡ countOf bytes
   rows = length-refs (layoutOf (h .entries)) bytes
 
+  -- The count of a page that may be met is at most E.
   pub used-few : (n : ℕ) → n ≡ countOf bytes → length (rowsOf h index page) ≤ h .entries → n ≤ h .entries
   used-few n e f = omega (arith, rows)
 
 module _ (h : Index) (index : List ℕ) (page mark : ℕ) (within : Within (layoutOf (h .entries)) index page) where
+  -- A free page that is marked.
   pub free-marked : countOf (bytes h index page) ≡ 0 → (mark ≡ 0 → ⊥) → PageCleared h index page mark → ⊥
   free-marked z m c = m (c .met ∙ omega (arith, rows h index page))
 
+  -- A page in use that is not marked.
   pub used-unmarked : (countOf (bytes h index page) ≡ 0 → ⊥) → mark ≡ 0 → PageCleared h index page mark → ⊥
   used-unmarked z m c = z (omega (arith, rows h index page, c .met))
 
-  -- A free page that was not met; a page in use that was met.
+  -- A free page that is not marked, by its bytes.
   pub free-cleared : (at end : ℕ) → at ≡ pageStart (layoutOf (h .entries)) page → end ≡ at + (2 + 3 * h .entries) → countOf (bytes h index page) ≡ 0 → mark ≡ 0
       → ZeroBetween at end index ↔ PageCleared h index page mark
   free-cleared at end a e z m = (
@@ -84,6 +88,7 @@ module _ (h : Index) (index : List ℕ) (page mark : ℕ) (within : Within (layo
       all : (k : ℕ) → ZeroBetween at end index → AllZero (drop k (bytes h index page))
       all k f = zero-page (layoutOf (h .entries)) index page k within .1 (λ j l g. f j (omega arith) (omega arith))
 
+  -- A page in use that is marked, by the bytes behind its entries.
   pub used-cleared : (at end n : ℕ) → at ≡ pageStart (layoutOf (h .entries)) page → end ≡ at + (2 + 3 * h .entries) → n ≡ countOf (bytes h index page) → (n ≡ 0 → ⊥) → mark ≡ 1
       → ZeroBetween (at + (2 + 3 * n)) end index ↔ PageCleared h index page mark
   used-cleared at end n a e c z m = (
