@@ -46,10 +46,10 @@ use Rattle.table_calls.specs.Places.{FoundLeaf}
 use Rattle.table_calls.specs.Answers.{plain, withRecord, found}
 
 -- NIL is no record; any other pointer is one.
-record-nil : {p : ℕ} → p ≡ 65535 → recordOf 65535 p ≡ none
+pub record-nil : {p : ℕ} → p ≡ 65535 → recordOf 65535 p ≡ none
 record-nil {p} h = rw (eq-eqb p 65535 h)
 
-record-live : {p : ℕ} → p ≢ 65535 → recordOf 65535 p ≡ some p
+pub record-live : {p : ℕ} → p ≢ 65535 → recordOf 65535 p ≡ some p
 record-live {p} h = rw (ne-eqb p 65535 h)
 
 module _ {index keys used : List ℕ} (s : Sound index keys used) (key : ℕ) (narrow : key < 2 ^ widthOf index) where

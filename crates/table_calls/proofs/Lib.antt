@@ -1,1 +1,7 @@
 pub mod FoundLeaves
+pub mod Visits
+pub mod PlaceLeaves
+pub mod VisitSteps
+pub mod RowWalks
+pub mod PlaceWalks
+pub mod ListedHerds

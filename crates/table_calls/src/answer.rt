@@ -1,6 +1,6 @@
 // The answer of every call.
 ghost use mathlib.Core.Path.{_≡_};
-ghost use Rattle.table_calls.specs.Answers.{plain, withRecord};
+ghost use Rattle.table_calls.specs.Answers.{plain, withRecord, withCount};
 
 // 0 done, or the number of the row that declines the call; the record that a find found; how many records a list wrote, and whether more remain.
 #[repr(C)]
@@ -35,6 +35,17 @@ impl Answer {
             record,
             count: 0,
             more: false,
+        }
+    }
+    // A list that wrote `count` records.
+    pub fn with_count(count: u64, more: bool) -> Answer
+        ensures { λ r. ⌜ r ≡ withCount count more ⌝ }
+    {
+        Answer {
+            number: 0,
+            record: Answer::NO_RECORD,
+            count,
+            more,
         }
     }
 }

@@ -11,7 +11,7 @@ use crate::answer::Answer;
 use index_table::header::Index;
 use table_search::Leaf;
 
-fn wide(x: u8) -> u64
+pub fn wide(x: u8) -> u64
     ensures { λ r. ⌜ r ≡ x ⌝ }
 {
     x as u64

@@ -37,12 +37,12 @@ pub depth-low : (w n : ℕ) (x : Node n) → All (λ e. entryDepth e ≤ w) (lea
 depth-low w zero (entry d p) a = a .0
 depth-low w (suc n) page a = last-low w n 0 page (depth-low w n) (omega arith) a
 
--- The leaves of one thing among a row's.
-leaves-at : (w n : ℕ) (f : Ref → Node n) (row : List Ref) (i : ℕ) → i < length row → All (λ e. entryDepth e ≤ w) (flats (leaves n) (map f row))
-    → All (λ e. entryDepth e ≤ w) (leaves n (f (getD row i (0, 0))))
-leaves-at w n f [] i h a = absurd (omega arith)
-leaves-at w n f (x ∷ row) zero h a = all-left (λ e. entryDepth e ≤ w) (leaves n (f x)) (flats (leaves n) (map f row)) a
-leaves-at w n f (x ∷ row) (suc i) h a = leaves-at w n f row i (omega arith) (all-right (λ e. entryDepth e ≤ w) (leaves n (f x)) (flats (leaves n) (map f row)) a)
+-- What holds of all leaves of a row holds of the leaves of one thing in it.
+pub leaves-at : (Q : Entry → Type 0) (n : ℕ) (f : Ref → Node n) (row : List Ref) (i : ℕ) → i < length row → All Q (flats (leaves n) (map f row))
+    → All Q (leaves n (f (getD row i (0, 0))))
+leaves-at Q n f [] i h a = absurd (omega arith)
+leaves-at Q n f (x ∷ row) zero h a = all-left Q (leaves n (f x)) (flats (leaves n) (map f row)) a
+leaves-at Q n f (x ∷ row) (suc i) h a = leaves-at Q n f row i (omega arith) (all-right Q (leaves n (f x)) (flats (leaves n) (map f row)) a)
 
 depths-low : (w n : ℕ) (f : Ref → Node n) (row : List Ref) → All (λ x. depth n (f x) ≡ x .0) row → All (λ e. entryDepth e ≤ w) (flats (leaves n) (map f row)) → All (λ x. x .0 ≤ w) row
 depths-low w n f [] h a = tt
@@ -116,16 +116,21 @@ module _ {b : List ℕ} {e P n page w key position : ℕ} (pre : DescendPre b e 
     trail-is : lastDepth (depth n) τ (map node (take (s .at) row)) ≡ s .trail
     trail-is = lastDepth-map depthOf (depth n) node τ (take (s .at) row) same-passed ∙ stop .trail
 
-    -- The search below the page is the search below that entry, with the positions and the depth carried on.
+    -- A search of the page ends at that entry, with the positions and the depth carried on, whatever is asked there.
+    pub descend-walk : {B : Type 0} (found : List ℕ → ℕ → Node n → List (Node n) → B) (none : B)
+        → walk (depth n) found (λ x r. r) none (leftFrom w key position) τ (map node row) ≡ found (leftFrom w key (s .position)) (s .trail) (node y) (map node (drop (suc (s .at)) row))
+    descend-walk found none =
+        ap (walk (depth n) found (λ x r. r) none (leftFrom w key position) τ) parted
+        ∙ find-at (depth n) found none (leftFrom w key position) τ (map node (take (s .at) row)) (node y) (map node (drop (suc (s .at)) row))
+        (passes-map depthOf (depth n) node (leftFrom w key position) (take (s .at) row) same-passed (stop .passes))
+        (subst (λ (bs : List ℕ). Stops (depth n) bs (node y)) (sym left-is) (rw (all-at (λ x. depth n (node x) ≡ x .0) row (s .at) (0, 0) (stop .inside) same) stop-before))
+        ∙ (λ i. found (left-is i) (trail-is i) (node y) (map node (drop (suc (s .at)) row)))
+
+    -- The search below the page is the search below that entry.
     pub descend-step : findBelow (suc n) (leftFrom w key position) τ (nodeAt 65535 (suc n) (pagesAt (layoutOf e) b) (0, page))
         ≡ findBelow n (leftFrom w key (s .position)) (s .trail) (node y)
     unfolding nodeAt
-    descend-step =
-        ap (walk (depth n) (λ bs t x xs. findBelow n bs t x) (λ x r. r) nowhere (leftFrom w key position) τ) parted
-        ∙ find-at (depth n) (λ bs t x xs. findBelow n bs t x) nowhere (leftFrom w key position) τ (map node (take (s .at) row)) (node y) (map node (drop (suc (s .at)) row))
-        (passes-map depthOf (depth n) node (leftFrom w key position) (take (s .at) row) same-passed (stop .passes))
-        (subst (λ (bs : List ℕ). Stops (depth n) bs (node y)) (sym left-is) (rw (all-at (λ x. depth n (node x) ≡ x .0) row (s .at) (0, 0) (stop .inside) same) stop-before))
-        ∙ (λ i. findBelow n (left-is i) (trail-is i) (node y))
+    descend-step = descend-walk (λ bs t x xs. findBelow n bs t x) nowhere
 
 -- On level 0 the entry is the answer.
 pub descend-leaf : {b : List ℕ} {e P page w key position τ : ℕ} (n : ℕ) (pre : DescendPre b e P n page w key position) (s : Spot) → Stopped w key position τ (pagesAt (layoutOf e) b page) s → n ≡ 0
@@ -158,7 +163,7 @@ module _ {b : List ℕ} {e P page w key position τ : ℕ} (n : ℕ) (pre : Desc
         sound = all-at (SoundBelow (layoutOf e) P (suc n) b) (pagesAt (layoutOf e) b page) (s .at) (0, 0) (stop .inside) (pre .sound .2);
         before = stop-before pre s stop;
         table = pre .table;
-        depths = leaves-at w (suc n) (nodeAt 65535 (suc n) (pagesAt (layoutOf e) b)) (pagesAt (layoutOf e) b page) (s .at) (stop .inside) (pre .depths);
+        depths = leaves-at (λ x. entryDepth x ≤ w) (suc n) (nodeAt 65535 (suc n) (pagesAt (layoutOf e) b)) (pagesAt (layoutOf e) b page) (s .at) (stop .inside) (pre .depths);
         width = pre .width;
         narrow = pre .narrow;
         high = stop .high;
