@@ -4,7 +4,7 @@ ghost use mathlib.Core.Bool.{true};
 ghost use mathlib.Core.Logic.{_↔_};
 ghost use Rattle.index_table.specs.Soundness.{Sound};
 ghost use Rattle.tag_index.specs.Format.{FormatDoes};
-ghost use Rattle.tag_index.specs.Reading.{FindDoes};
+ghost use Rattle.tag_index.specs.Reading.{FindDoes, ListDoes};
 use table_calls::answer::Answer;
 
 #[no_mangle]
@@ -26,6 +26,20 @@ pub extern "C" fn tag_index_find(index: &[u8], keys: &[u64], used: &[u8], key: u
     ensures { λ r. ⌜ FindDoes (now (index .entry)) (now (keys .entry)) (now (used .entry)) key r ⌝ }
 {
     crate::read::find(index, keys, used, key)
+}
+
+#[no_mangle]
+pub extern "C" fn tag_index_list(
+    index: &[u8],
+    keys: &[u64],
+    used: &[u8],
+    a: u64,
+    b: u64,
+    out: &mut [u32],
+) -> Answer
+    ensures { λ r. ⌜ ListDoes (now (index .entry)) (now (keys .entry)) (now (used .entry)) a b (now (out .entry)) (now (out .exit)) r ⌝ }
+{
+    crate::read::list(index, keys, used, a, b, out)
 }
 
 #[no_mangle]

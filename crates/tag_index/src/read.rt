@@ -6,7 +6,7 @@ ghost use Prim.Native.Nat.{_≤_};
 ghost use lib.ListN.{length};
 ghost use Rattle.index_table.specs.Header.{widthOf};
 ghost use Rattle.index_table.specs.Soundness.{Sound};
-ghost use Rattle.tag_index.specs.Reading.{FindDoes};
+ghost use Rattle.tag_index.specs.Reading.{FindDoes, ListDoes};
 use table_calls::answer::Answer;
 
 // The width of the keys.
@@ -28,6 +28,23 @@ pub fn find(index: &[u8], keys: &[u64], used: &[u8], key: u64) -> Answer
         return Answer::plain(2);
     }
     table_calls::find::find_held(index, keys, used, key)
+}
+
+// The records of the keys from a to b, in key order, as many as the slice holds.
+pub fn list(index: &[u8], keys: &[u64], used: &[u8], a: u64, b: u64, out: &mut [u32]) -> Answer
+    ensures { λ r. ⌜ ListDoes (now (index .entry)) (now (keys .entry)) (now (used .entry)) a b (now (out .entry)) (now (out .exit)) r ⌝ }
+{
+    if !table_check::check(index, keys, used) {
+        return Answer::plain(1);
+    }
+    let w = width(index);
+    if leaf_list::too_wide(w, a) {
+        return Answer::plain(2);
+    }
+    if leaf_list::too_wide(w, b) {
+        return Answer::plain(2);
+    }
+    table_calls::list::list_held(index, keys, used, a, b, out)
 }
 
 // Whether the tables are sound.

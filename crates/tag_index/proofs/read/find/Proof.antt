@@ -1,19 +1,12 @@
 -- Rows 1, 2 and 6, in this order. Assumes nothing.
 use borrow.Author.Needs.{needs}
 use borrow.Author.Tests.{not-true, not-false, leb-false}
-use mathlib.Core.Path.{_≡_, sym, ap, subst, _∙_}
-use mathlib.Core.Bool.{Bool, false, true}
-use Prim.Native.Nat.{ℕ, _^_, _<_}
+use mathlib.Core.Path.{_∙_}
 use native.Mathlib.Omega.{arith}
-use lib.Dec.{leb}
 use Rattle.index_table.proofs.SoundTables.{header-long}
-use Rattle.tag_index.proofs.Judging.{find-unsound, find-wide, find-done}
+use Rattle.tag_index.proofs.Judging.{wide-is, find-unsound, find-wide, find-done}
 use Rattle.tag_index.proofs.read.find.Statement.{statement}
 use Rattle.tag_index.proofs.read.find.Tie as tie
-
--- The test is of the header's width.
-wide-is : {w v : ℕ} (key : ℕ) {t : Bool} → w ≡ v → t ≡ leb (2 ^ w) key → leb (2 ^ v) key ≡ t
-wide-is key e q = sym (q ∙ ap (λ (n : ℕ). leb (2 ^ n) key) e)
 
 check-requires : tie.Need-check-requires
 check-requires c κs = search needs
