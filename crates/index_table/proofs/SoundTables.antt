@@ -9,21 +9,24 @@ use lib.Dec.{ltb}
 use lib.Pow.{pow-pos}
 use lib.ListN.{length, getD}
 use borrow.Author.Tests.{ltb-true, ltb-false, eqb-true}
-use Rattle.leaf_list.specs.Entries.{Entry, depthOf}
-use Rattle.leaf_list.specs.Herd.{Herd, Narrow, Sorted, KeysOf}
+use Rattle.leaf_list.specs.Entries.{depthOf, liveRecords}
+use Rattle.leaf_list.specs.Herd.{Narrow, Sorted, KeysOf, recordsOf}
 use Rattle.leaf_list.specs.LeafList.{leafList}
 use Rattle.leaf_list.specs.Register.{keyAt, inUse, herdOf}
 use Rattle.leaf_list.proofs.Check.{herdOf-narrow}
-use Rattle.leaf_list.proofs.Laws.{depths-law}
+use Rattle.leaf_list.proofs.FittingHerds.{AllInUse}
+use Rattle.leaf_list.proofs.Laws.{depths-law, liveRecords-law}
 use Rattle.leaf_list.proofs.RegisterChange.{herdOf-sorted}
-use Rattle.leaf_list.proofs.RegisterHerd.{herdOf-keysOf}
+use Rattle.leaf_list.proofs.RegisterHerd.{herdOf-is, herdOf-keysOf, length-herdFrom}
 use Rattle.page_tree.specs.Rows.{All}
-use Rattle.page_tree.specs.Tree.{Tree, leavesOf, SoundTree, RootRule}
+use Rattle.page_tree.specs.Tree.{Tree, depth, leavesOf, SoundTree, RootRule, pagesOf as treePages}
 use Rattle.index_table.specs.Layout.{layoutOf, pageSize, pageStart, Within}
-use Rattle.index_table.specs.Header.{widthOf, entriesOf, pagesOf, rootOf}
-use Rattle.index_table.specs.Pages.{pagesAt, treeAt}
+use Rattle.index_table.specs.Header.{widthOf, entriesOf, pagesOf, rootOf, heldOf}
+use Rattle.index_table.specs.Pages.{Pages, pagesAt, treeAt, usedPages}
 use Rattle.index_table.specs.Soundness.{SoundRecord, Sound, rootLevel, leafEntries}
 use Rattle.index_table.proofs.PageBytes.{within-table}
+use Rattle.index_table.proofs.SoundNodes.{sound-tree, tree-root-rule, tree-depth}
+use Rattle.index_table.proofs.UsedPages.{used-tree}
 
 -- Beyond the end of a list stands 0.
 beyond : (l : List ℕ) (i : ℕ) → length l ≤ i → getD l i 0 ≡ 0
@@ -57,7 +60,7 @@ module _ {index keys used : List ℕ} (s : Sound index keys used) where
       go true e = ltb-true r (length used) e
       go false e = absurd (omega (arith, beyond used r (ltb-false r (length used) e), eqb-true (getD used r 0) 1 h))
 
-  -- The register's herd is sorted, narrow, and has the register's keys.
+  -- The register's herd is narrow, sorted, has the register's keys and is as many as the header says; its records are in use.
   pub herd-narrow : Narrow w (herdOf keys used)
   herd-narrow = herdOf-narrow w keys used (λ r h. keys-narrow r)
 
@@ -66,6 +69,12 @@ module _ {index keys used : List ℕ} (s : Sound index keys used) where
 
   pub herd-keys : KeysOf (keyAt keys) (herdOf keys used)
   herd-keys = herdOf-keysOf keys used
+
+  pub herd-in-use : AllInUse (inUse used) (recordsOf (herdOf keys used))
+  herd-in-use = herdOf-is keys used .uses
+
+  pub herd-held : length (herdOf keys used) ≡ heldOf index
+  herd-held = length-herdFrom (keyAt keys) 0 used ∙ sym (s .held)
 
   -- All pages are within the table.
   pub table-long : pageStart (layoutOf (entriesOf index)) (pagesOf index) ≤ length index
@@ -83,3 +92,29 @@ module _ {index keys used : List ℕ} (s : Sound index keys used) where
   -- No depth on level 0 is above w.
   pub leaf-depths : All (λ e. depthOf e ≤ w) (leafEntries index)
   leaf-depths = subst (All (λ e. depthOf e ≤ w)) (sym (s .leaves)) (depths-law w (herdOf keys used) herd-narrow herd-sorted)
+
+  -- ---- the tree of pages
+
+  abbrev rows : Pages
+  rows = pagesAt (layoutOf (entriesOf index)) index
+
+  abbrev tree : Tree
+  tree = treeAt 65535 (pagesAt (layoutOf (entriesOf index)) index) (rootLevel index) (rootOf index)
+
+  pub tree-sound : SoundTree (entriesOf index) tree
+  tree-sound = sound-tree 65535 (layoutOf (entriesOf index)) (pagesOf index) index (rootLevel index) (rootOf index) (s .pages)
+
+  pub root-rule : RootRule tree
+  root-rule = tree-root-rule 65535 (layoutOf (entriesOf index)) (pagesOf index) index (rootLevel index) (rootOf index) (s .pages)
+
+  -- The root closes with depth 0.
+  pub root-depth : depth (suc (rootLevel index)) (tree .1) ≡ 0
+  root-depth = tree-depth 65535 (layoutOf (entriesOf index)) (pagesOf index) index (rootLevel index) (rootOf index) (s .pages)
+
+  -- The live leaves are the records in key order.
+  pub live-leaves : liveRecords (leavesOf tree) ≡ recordsOf (herdOf keys used)
+  live-leaves = ap liveRecords (s .leaves) ∙ liveRecords-law w (herdOf keys used) herd-narrow herd-sorted
+
+  -- As many pages are in use as the tree has.
+  pub pages-used : usedPages (pagesOf index) rows ≡ treePages tree
+  pages-used = used-tree 65535 (layoutOf (entriesOf index)) (pagesOf index) index (rootLevel index) (rootOf index) (s .pages)

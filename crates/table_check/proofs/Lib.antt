@@ -7,4 +7,3 @@ pub mod ZeroBytes
 pub mod Headers
 pub mod WholeTree
 pub mod Verdict
-pub mod SoundTables
