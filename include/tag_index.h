@@ -1,0 +1,66 @@
+/* The index of ear tags over lent tables. Link with libtag_index.a.
+
+   The tables are an index table of bytes (a 16-byte header, then P pages of
+   2 + 3E bytes) and a register: one key and one byte (1 in use, 0 free) for
+   each record. Every slice is a pointer and its length in elements. A pointer
+   is never null, even where the length is 0; slices lent to one call do not
+   overlap. The library keeps no memory of its own: it works in the tables
+   alone, and calls on different tables may run at the same time.
+
+   Every call but check answers a number: 0 done, or, the first that applies,
+     9  format: W is not 1 to 64, E not 2 to 255, P not 1 to 65534, the
+        register not 1 to 65534 records, or a table not as long as they say;
+     1  find, list: the tables are not sound;
+     2  find, list: a key of more than W bits (either end of a list);
+     6  find: the key is not held.
+   A refusal has record 65535, count 0 and more false, and changes no lent
+   byte. A done call leaves so what it does not set. */
+#ifndef TAG_INDEX_H
+#define TAG_INDEX_H
+
+#include <stdbool.h>
+#include <stddef.h>
+#include <stdint.h>
+
+#ifdef __cplusplus
+extern "C" {
+#endif
+
+struct tag_index_answer {
+    uint32_t number; /* 0 done, or the number of the refusal */
+    uint32_t record; /* find: the record of the key; else 65535 */
+    uint64_t count;  /* list: how many records it wrote; else 0 */
+    bool more;       /* list: whether more remain; else false */
+};
+
+/* Format: the tables hold no key, whatever they held before. Refused by 9. */
+struct tag_index_answer tag_index_format(uint8_t *index, size_t index_bytes,
+                                         uint64_t *keys, size_t keys_length,
+                                         uint8_t *used, size_t used_length,
+                                         uint64_t w, uint64_t e, uint64_t p);
+
+/* Find: the record of a key. Refused by 1, 2, 6; changes no byte. */
+struct tag_index_answer tag_index_find(const uint8_t *index, size_t index_bytes,
+                                       const uint64_t *keys, size_t keys_length,
+                                       const uint8_t *used, size_t used_length,
+                                       uint64_t key);
+
+/* List: the records of the keys from a to b inclusive, in key order, as many
+   as out holds; the rest of out is kept. a above b gives none. Refused by 1,
+   2; changes no byte of the tables. */
+struct tag_index_answer tag_index_list(const uint8_t *index, size_t index_bytes,
+                                       const uint64_t *keys, size_t keys_length,
+                                       const uint8_t *used, size_t used_length,
+                                       uint64_t a, uint64_t b,
+                                       uint32_t *out, size_t out_length);
+
+/* Check: whether the tables are sound. Never refused; changes no byte. */
+bool tag_index_check(const uint8_t *index, size_t index_bytes,
+                     const uint64_t *keys, size_t keys_length,
+                     const uint8_t *used, size_t used_length);
+
+#ifdef __cplusplus
+}
+#endif
+
+#endif
