@@ -7,5 +7,6 @@ fn main() {
     let archives = root.join("target/staticlib");
     println!("cargo:rustc-link-search=native={}", archives.display());
     println!("cargo:rustc-link-lib=static=tag_code");
+    println!("cargo:rustc-link-lib=static=tag_index");
     println!("cargo:rerun-if-changed={}", archives.display());
 }

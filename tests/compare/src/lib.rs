@@ -1,3 +1,7 @@
-//! The proved libraries behind safe functions, in the model's types.
+//! The proved libraries behind safe functions, in the model's types, and what
+//! the comparisons share.
 
+pub mod same;
+pub mod supply;
 pub mod tag_code;
+pub mod tag_index;

@@ -1,0 +1,54 @@
+//! Seeds, tables and keys for comparisons.
+
+use model::random::keys::{key, largest_key, SPREADS};
+use model::random::sound_tables::sound_index;
+use model::random::Random;
+use model::table::Tables;
+use std::ops::Range;
+
+/// So many seeds. MODEL_SEED in the environment, if set, gives other ones.
+pub fn seeds(count: u64) -> Range<u64> {
+    let set = std::env::var("MODEL_SEED").ok();
+    let first = set.map_or(0, |seed| seed.parse().expect("MODEL_SEED is a number"));
+    first..first + count
+}
+
+/// Sound tables with random borders between pages.
+pub fn sound_tables(random: &mut Random) -> Tables {
+    let width = random.between(1, 64);
+    let entries = *random.pick(&[2, 2, 2, 3, 4, 5, 8, 20, 255]);
+    let records = random.between(1, 24);
+    Tables::of(&sound_index(random, width, entries, records))
+}
+
+/// W as the header has it, or 64 if it is none.
+pub fn width(tables: &Tables) -> usize {
+    let width = tables.index.first().map_or(64, |&byte| byte.into());
+    if (1..=64).contains(&width) {
+        width
+    } else {
+        64
+    }
+}
+
+/// A key to look for: one of the register's, a neighbour of one, another, or
+/// one too wide.
+pub fn some_key(random: &mut Random, tables: &Tables) -> u64 {
+    let width = width(tables);
+    let spread = *random.pick(&SPREADS);
+    let new = key(random, width, spread);
+    let near = match tables.keys.is_empty() {
+        true => new,
+        false => *random.pick(&tables.keys),
+    };
+    match random.below(12) {
+        0..=2 => near,
+        3 => near.wrapping_add(1),
+        4 => near.wrapping_sub(1),
+        5 | 6 => near ^ 1 << random.below(width),
+        7 => near | largest_key(width).wrapping_add(1),
+        8 => random.number(),
+        9 => *random.pick(&[0, largest_key(width), u64::MAX]),
+        _ => new,
+    }
+}

@@ -1,0 +1,120 @@
+//! Check and find on damaged tables, on tables of any bytes and of any
+//! lengths: the same answers as the model, and no byte changed.
+
+use compare::same;
+use compare::supply::{seeds, some_key, sound_tables};
+use model::random::damage::{damaged, DAMAGES};
+use model::random::sound_tables::sound_index;
+use model::random::Random;
+use model::table::Tables;
+use std::collections::BTreeMap;
+
+/// Check and two finds. Gives whether the tables are sound.
+fn same_reading(random: &mut Random, tables: &Tables, what: &str) -> bool {
+    let sound = same::check(tables, what);
+    for _ in 0..2 {
+        let key = some_key(random, tables);
+        let number = same::find(tables, key, what).number;
+        assert_eq!(number == 1, !sound, "{what}: row 1 against check");
+    }
+    sound
+}
+
+#[test]
+fn every_kind_of_damage() {
+    let mut declined: BTreeMap<String, usize> = BTreeMap::new();
+    let mut still_sound = 0;
+    for seed in seeds(500) {
+        let mut random = Random::new(seed);
+        let tables = sound_tables(&mut random);
+        for damage in DAMAGES {
+            let Some(hurt) = damaged(&mut random, &tables, damage) else {
+                continue;
+            };
+            let what = format!("seed {seed} {damage:?}");
+            match same_reading(&mut random, &hurt, &what) {
+                true => still_sound += 1,
+                false => *declined.entry(format!("{damage:?}")).or_default() += 1,
+            }
+        }
+    }
+    assert_eq!(
+        declined.len(),
+        DAMAGES.len(),
+        "a damage never declined: {declined:?}"
+    );
+    assert!(declined.values().all(|&times| times >= 50), "{declined:?}");
+    assert!(
+        still_sound >= 50,
+        "few damages left sound tables: {still_sound}"
+    );
+}
+
+/// Two damages, which may undo or hide each other.
+#[test]
+fn two_damages() {
+    let mut declined = 0;
+    for seed in seeds(1_500) {
+        let mut random = Random::new(seed);
+        let tables = sound_tables(&mut random);
+        let damages = [0, 1].map(|_| *random.pick(&DAMAGES));
+        let hurt = damaged(&mut random, &tables, damages[0]);
+        // The second is done only where the first left pages to be read.
+        let Some(hurt) = hurt.filter(|hurt| hurt.index.len() == tables.index.len()) else {
+            continue;
+        };
+        let heads = hurt.index[..16] == tables.index[..16];
+        let again = match heads && same::check(&hurt, &format!("seed {seed}")) {
+            true => damaged(&mut random, &hurt, damages[1]).unwrap_or(hurt),
+            false => bytes_copied(&mut random, hurt),
+        };
+        let what = format!("seed {seed} {damages:?}");
+        declined += usize::from(!same_reading(&mut random, &again, &what));
+    }
+    assert!(declined >= 500, "few declined: {declined}");
+}
+
+fn bytes_copied(random: &mut Random, mut tables: Tables) -> Tables {
+    for _ in 0..random.between(1, 4) {
+        let byte = *random.pick(&tables.index);
+        let place = random.below(tables.index.len());
+        tables.index[place] = byte;
+    }
+    tables
+}
+
+#[test]
+fn bytes_copied_about_in_the_index_table() {
+    let mut met = [0, 0];
+    for seed in seeds(2_000) {
+        let mut random = Random::new(seed);
+        let tables = sound_tables(&mut random);
+        let hurt = bytes_copied(&mut random, tables);
+        let sound = same_reading(&mut random, &hurt, &format!("seed {seed}"));
+        met[usize::from(sound)] += 1;
+    }
+    assert!(
+        met.iter().all(|&times| times >= 100),
+        "unsound, sound: {met:?}"
+    );
+}
+
+#[test]
+fn every_value_of_every_byte_of_small_tables() {
+    let mut met = [0, 0];
+    for seed in seeds(6) {
+        let mut random = Random::new(seed);
+        let width = random.between(1, 4);
+        let tables = Tables::of(&sound_index(&mut random, width, 2, 4));
+        for place in 0..tables.index.len().min(120) {
+            for byte in 0..=255 {
+                let mut hurt = tables.clone();
+                hurt.index[place] = byte;
+                let what = format!("seed {seed}, byte {place} to {byte}");
+                met[usize::from(same::check(&hurt, &what))] += 1;
+            }
+        }
+    }
+    // Each byte's own value leaves the tables sound.
+    assert!(met[0] >= 10_000 && met[1] >= 100, "unsound, sound: {met:?}");
+}
