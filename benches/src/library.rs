@@ -1,0 +1,70 @@
+//! The calls of include/tag_index.h that are measured.
+
+use model::table::Tables;
+
+/// The answer as it comes from C.
+#[repr(C)]
+pub struct Answer {
+    /// 0, or the number of the refusal.
+    pub number: u32,
+    /// The record found.
+    pub record: u32,
+    /// Set by list alone.
+    pub count: u64,
+    /// Set by list alone.
+    pub more: bool,
+}
+
+extern "C" {
+    fn tag_index_find(
+        index: *const u8,
+        index_bytes: usize,
+        keys: *const u64,
+        keys_length: usize,
+        used: *const u8,
+        used_length: usize,
+        key: u64,
+    ) -> Answer;
+    fn tag_index_check(
+        index: *const u8,
+        index_bytes: usize,
+        keys: *const u64,
+        keys_length: usize,
+        used: *const u8,
+        used_length: usize,
+    ) -> bool;
+}
+
+/// Find.
+pub fn find(tables: &Tables, key: u64) -> Answer {
+    let Tables { index, keys, used } = tables;
+    // SAFETY: slices with their own lengths, which the call only reads; the
+    // declaration is that of include/tag_index.h.
+    unsafe {
+        tag_index_find(
+            index.as_ptr(),
+            index.len(),
+            keys.as_ptr(),
+            keys.len(),
+            used.as_ptr(),
+            used.len(),
+            key,
+        )
+    }
+}
+
+/// Check.
+pub fn check(tables: &Tables) -> bool {
+    let Tables { index, keys, used } = tables;
+    // SAFETY: as for find.
+    unsafe {
+        tag_index_check(
+            index.as_ptr(),
+            index.len(),
+            keys.as_ptr(),
+            keys.len(),
+            used.as_ptr(),
+            used.len(),
+        )
+    }
+}
