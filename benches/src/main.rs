@@ -1,21 +1,29 @@
 //! Prints how long check and find take, beside a memcmp of the same bytes and
-//! `BTreeMap::get`.
+//! `BTreeMap::get`. An argument, if given, is the seconds for each herd.
 
 mod herd;
 mod library;
 mod measure;
 
 use measure::{measure, Measures, Median};
+use std::time::Duration;
 
 const RECORDS: [usize; 4] = [100, 1_000, 4_096, 60_000];
 
+const KEYS: [&str; 2] = ["held key", "other key"];
+
+const METHOD: &str = "\
+Medians over rounds. A round times every measure once, close together, about 20 us of calls each (one call
+where it takes longer), and find and check take turns to be first. Check / memcmp is the median of the
+ratios within rounds, and a row that is less check that of the differences; brackets show where the true median
+lies 95 times in 100. Such a row is a small difference of large numbers: where the brackets are wide, it is not
+known better than that. Gets run many in a row, with caches and branch prediction to themselves; behind a check,
+a get finds them as a find does.";
+
 /// Prints a row: its name, and a cell for each herd.
 fn row(name: &str, herds: &[Measures], cell: impl Fn(&Measures) -> String) {
-    let cells: String = herds
-        .iter()
-        .map(|herd| format!("{:>18}", cell(herd)))
-        .collect();
-    println!("{name:<36}{cells}");
+    let cells = herds.iter().map(|herd| format!("{:>22}", cell(herd)));
+    println!("{name:<42}{}", cells.collect::<String>());
 }
 
 /// Nanoseconds as microseconds.
@@ -25,59 +33,52 @@ fn micros(median: Median) -> String {
 
 /// Nanoseconds with the interval of the median.
 fn nanos(median: Median) -> String {
-    format!(
-        "{:.0} [{:.0}, {:.0}]",
-        median.value, median.low, median.high
-    )
+    let Median { value, low, high } = median;
+    format!("{value:.0} [{low:.0}, {high:.0}]")
 }
 
 fn ratio(one: Median, other: Median) -> String {
     format!("{:.2}", one.value / other.value)
 }
 
-fn print_times(herds: &[Measures]) {
+fn print_check(herds: &[Measures]) {
     row("records, all held", herds, |m| m.records.to_string());
     row("bytes of the three tables", herds, |m| m.bytes.to_string());
     row("rounds", herds, |m| m.rounds.to_string());
-    println!();
-    row("memcmp of the bytes, us", herds, |m| micros(m.memcmp));
+    row("memcmp of these bytes, us", herds, |m| micros(m.memcmp));
     row("check, us", herds, |m| micros(m.check));
-    row("find of a held key, us", herds, |m| micros(m.find_held));
-    row("find of another key, us", herds, |m| micros(m.find_other));
-    row("find above check, held, ns", herds, |m| nanos(m.above_held));
-    row("find above check, other, ns", herds, |m| {
-        nanos(m.above_other)
+    row("check / memcmp", herds, |m| {
+        format!("{:.2}", m.over_memcmp.value)
     });
-    row("BTreeMap::get, held, ns", herds, |m| nanos(m.get_held));
-    row("BTreeMap::get, other, ns", herds, |m| nanos(m.get_other));
-}
-
-fn print_ratios(herds: &[Measures]) {
-    row("check / memcmp", herds, |m| ratio(m.check, m.memcmp));
-    row("check per held record, ns", herds, |m| {
+    row("check for each held record, ns", herds, |m| {
         format!("{:.2}", m.check.value / m.records as f64)
     });
-    row("find above check / get, held", herds, |m| {
-        ratio(m.above_held, m.get_held)
+}
+
+fn print_find(herds: &[Measures], which: usize) {
+    println!("\n{}", KEYS[which]);
+    row("find, us", herds, |m| micros(m.find[which]));
+    row("find less check, ns", herds, |m| nanos(m.above[which]));
+    row("BTreeMap::get, ns", herds, |m| nanos(m.get[which]));
+    row("check and get, less check, ns", herds, |m| {
+        nanos(m.get_behind[which])
     });
-    row("find above check / get, other", herds, |m| {
-        ratio(m.above_other, m.get_other)
+    row("find less check / get", herds, |m| {
+        ratio(m.above[which], m.get[which])
+    });
+    row("find less check / get behind a check", herds, |m| {
+        ratio(m.above[which], m.get_behind[which])
     });
 }
 
 fn main() {
-    println!(
-        "W {}, E {}, a quarter of the pages free; tags of five countries with random national numbers.",
-        herd::WIDTH,
-        herd::ENTRIES
-    );
-    println!(
-        "Medians over rounds; each round times every measure once, close together. 'Find above check' is the\n\
-         median of the differences within rounds, find and check by turns first; in brackets, where the true\n\
-         median lies 95 times in 100. It has the clock's and the machine's noise of two whole checks in it.\n"
-    );
-    let herds: Vec<Measures> = RECORDS.into_iter().map(measure).collect();
-    print_times(&herds);
-    println!();
-    print_ratios(&herds);
+    let seconds = std::env::args().nth(1);
+    let seconds = seconds.map_or(6, |given| given.parse().expect("a number of seconds"));
+    let (width, entries) = (herd::WIDTH, herd::ENTRIES);
+    println!("W {width}, E {entries}, P a quarter above the pages in use; tags of five countries.");
+    println!("{METHOD}\n");
+    let measured = |records| measure(records, Duration::from_secs(seconds));
+    let herds: Vec<Measures> = RECORDS.into_iter().map(measured).collect();
+    print_check(&herds);
+    (0..KEYS.len()).for_each(|which| print_find(&herds, which));
 }

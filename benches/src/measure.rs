@@ -8,8 +8,9 @@ use std::collections::BTreeMap;
 use std::hint::black_box;
 use std::time::{Duration, Instant};
 
-/// How long one herd is measured.
-const TIME: Duration = Duration::from_secs(6);
+/// How many keys are looked for before the same come again: too many for the
+/// machine to learn their ways by heart.
+const LOOKED_FOR: usize = 1 << 14;
 
 /// How long the calls timed together take, about: long beside the clock's own
 /// time, short beside the machine's disturbances.
@@ -34,19 +35,32 @@ fn median(mut values: Vec<f64>) -> Median {
     }
 }
 
-/// What was measured of a herd, in nanoseconds a call.
+/// What was measured of a herd, in nanoseconds a call; of a held key, and of
+/// another.
 pub struct Measures {
     pub records: usize,
     pub bytes: usize,
     pub rounds: usize,
     pub memcmp: Median,
     pub check: Median,
-    pub find_held: Median,
-    pub find_other: Median,
-    pub above_held: Median,
-    pub above_other: Median,
-    pub get_held: Median,
-    pub get_other: Median,
+    /// Check over memcmp, a ratio.
+    pub over_memcmp: Median,
+    pub find: [Median; 2],
+    /// Find less check.
+    pub above: [Median; 2],
+    /// `BTreeMap::get`, many in a row.
+    pub get: [Median; 2],
+    /// Check and a get, less check.
+    pub get_behind: [Median; 2],
+}
+
+/// The times of one round.
+struct Round {
+    memcmp: f64,
+    check: f64,
+    find: [f64; 2],
+    check_and_get: [f64; 2],
+    get: [f64; 2],
 }
 
 /// A herd with all that a round works on.
@@ -54,8 +68,8 @@ struct Bench {
     tables: Tables,
     copy: Tables,
     map: BTreeMap<u64, u32>,
-    held: Vec<u64>,
-    others: Vec<u64>,
+    /// Keys to look for: held ones, and others.
+    keys: [Vec<u64>; 2],
     /// How many calls of check or find are timed together.
     calls: usize,
     /// How many comparisons are timed together.
@@ -65,14 +79,19 @@ struct Bench {
 /// How many gets of the map are timed together.
 const GETS: usize = 256;
 
-/// Nanoseconds of one of so many calls. The call is given the number of calls
-/// made before it, counted from `first`.
+/// Nanoseconds of one of so many calls. Each call is given its number, counted
+/// from `first`.
 fn time(first: usize, calls: usize, mut call: impl FnMut(usize)) -> f64 {
     let start = Instant::now();
-    for made in first..first + calls {
-        call(made);
+    for number in first..first + calls {
+        call(number);
     }
     start.elapsed().as_nanos() as f64 / calls as f64
+}
+
+/// Keys to look for, drawn at random from these.
+fn drawn(random: &mut Random, keys: &[u64]) -> Vec<u64> {
+    (0..LOOKED_FOR).map(|_| *random.pick(keys)).collect()
 }
 
 impl Bench {
@@ -81,19 +100,15 @@ impl Bench {
         let mut held = tags(&mut random, 2 * records);
         let others = held.split_off(records);
         let tables = tables(&held);
-        let map = held.iter().copied().zip(0..).collect();
-        let copy = tables.clone();
         let mut bench = Bench {
+            copy: tables.clone(),
             tables,
-            copy,
-            map,
-            held,
-            others,
+            map: held.iter().copied().zip(0..).collect(),
+            keys: [&held, &others].map(|keys| drawn(&mut random, keys)),
             calls: 1,
             compares: 1,
         };
         bench.test();
-        random.shuffle(&mut bench.held);
         let together = |once: f64| (TOGETHER_NS / once).ceil() as usize;
         bench.calls = together(time(0, 20, |_| bench.check()));
         bench.compares = together(time(0, 20, |_| bench.compare()));
@@ -103,11 +118,11 @@ impl Bench {
     /// The calls do what they are measured for.
     fn test(&self) {
         assert!(check(&self.tables), "the tables are sound");
-        for (key, record) in self.held.iter().zip(0..).take(1_000) {
+        for key in &self.keys[0][..1_000] {
             let answer = find(&self.tables, *key);
-            assert_eq!((answer.number, answer.record), (0, record));
+            assert_eq!((answer.number, answer.record), (0, self.map[key]));
         }
-        for key in self.others.iter().take(1_000) {
+        for key in &self.keys[1][..1_000] {
             assert_eq!(find(&self.tables, *key).number, 6);
         }
     }
@@ -116,13 +131,13 @@ impl Bench {
         black_box(check(black_box(&self.tables)));
     }
 
-    fn find(&self, keys: &[u64], made: usize) {
-        let key = keys[made % keys.len()];
+    fn find(&self, which: usize, number: usize) {
+        let key = self.keys[which][number % LOOKED_FOR];
         black_box(find(black_box(&self.tables), black_box(key)));
     }
 
-    fn get(&self, keys: &[u64], made: usize) {
-        let key = keys[made % keys.len()];
+    fn get(&self, which: usize, number: usize) {
+        let key = self.keys[which][number % LOOKED_FOR];
         black_box(black_box(&self.map).get(black_box(&key)));
     }
 
@@ -133,53 +148,60 @@ impl Bench {
         black_box(one.used == other.used);
     }
 
-    /// Check, find of a held key and find of another, each first in turn.
-    fn calls(&self, round: usize) -> [f64; 3] {
-        let first = round * self.calls;
-        let mut times = [0.0; 3];
-        for turn in 0..3 {
-            let which = (round + turn) % 3;
-            times[which] = match which {
-                0 => time(first, self.calls, |_| self.check()),
-                1 => time(first, self.calls, |made| self.find(&self.held, made)),
-                _ => time(first, self.calls, |made| self.find(&self.others, made)),
-            };
+    /// A call that is measured by its difference to a check, or a check.
+    fn call(&self, kind: usize, number: usize) {
+        match kind {
+            0 => self.check(),
+            1 | 2 => self.find(kind - 1, number),
+            _ => {
+                self.check();
+                self.get(kind - 3, number);
+            }
         }
-        times
     }
 
-    /// One round: memcmp, check, both finds, both gets.
-    fn round(&self, round: usize) -> [f64; 6] {
+    /// One round. Check and what is compared with it take turns to be first.
+    fn round(&self, round: usize) -> Round {
         let memcmp = time(0, self.compares, |_| self.compare());
-        let [check, held, other] = self.calls(round);
-        let first = round * GETS;
-        let get_held = time(first, GETS, |made| self.get(&self.held, made));
-        let get_other = time(first, GETS, |made| self.get(&self.others, made));
-        [memcmp, check, held, other, get_held, get_other]
+        let mut times = [0.0; 5];
+        for turn in 0..5 {
+            let kind = (round + turn) % 5;
+            let first = round * self.calls;
+            times[kind] = time(first, self.calls, |number| self.call(kind, number));
+        }
+        let [check, held, other, get_held, get_other] = times;
+        let gets = |which| time(round * GETS, GETS, |number| self.get(which, number));
+        Round {
+            memcmp,
+            check,
+            find: [held, other],
+            check_and_get: [get_held, get_other],
+            get: [0, 1].map(gets),
+        }
     }
 }
 
-/// Measures a herd of so many records.
-pub fn measure(records: usize) -> Measures {
+/// Measures a herd of so many records for so long.
+pub fn measure(records: usize, how_long: Duration) -> Measures {
     let bench = Bench::new(records);
     let start = Instant::now();
     let mut rounds = Vec::new();
-    while start.elapsed() < TIME {
+    while start.elapsed() < how_long {
         rounds.push(bench.round(rounds.len()));
     }
-    let of = |value: fn(&[f64; 6]) -> f64| median(rounds.iter().map(value).collect());
+    let of = |value: &dyn Fn(&Round) -> f64| median(rounds.iter().map(value).collect());
+    let both = |value: fn(&Round, usize) -> f64| [0, 1].map(|which| of(&|r| value(r, which)));
     let Tables { index, keys, used } = &bench.tables;
     Measures {
         records,
         bytes: index.len() + 8 * keys.len() + used.len(),
         rounds: rounds.len(),
-        memcmp: of(|round| round[0]),
-        check: of(|round| round[1]),
-        find_held: of(|round| round[2]),
-        find_other: of(|round| round[3]),
-        above_held: of(|round| round[2] - round[1]),
-        above_other: of(|round| round[3] - round[1]),
-        get_held: of(|round| round[4]),
-        get_other: of(|round| round[5]),
+        memcmp: of(&|round| round.memcmp),
+        check: of(&|round| round.check),
+        over_memcmp: of(&|round| round.check / round.memcmp),
+        find: both(|round, which| round.find[which]),
+        above: both(|round, which| round.find[which] - round.check),
+        get: both(|round, which| round.get[which]),
+        get_behind: both(|round, which| round.check_and_get[which] - round.check),
     }
 }
