@@ -1,6 +1,7 @@
 //! The proved libraries behind safe functions, in the model's types, and what
 //! the comparisons share.
 
+pub mod list;
 pub mod same;
 pub mod supply;
 pub mod tag_code;
