@@ -50,7 +50,8 @@ fn every_kind_of_damage() {
     );
 }
 
-/// Two damages, which may undo or hide each other.
+/// A damage and then bytes copied about or, where it left sound tables, a second
+/// damage: they may undo or hide each other.
 #[test]
 fn two_damages() {
     let mut declined = 0;
@@ -58,23 +59,23 @@ fn two_damages() {
         let mut random = Random::new(seed);
         let tables = sound_tables(&mut random);
         let damages = [0, 1].map(|_| *random.pick(&DAMAGES));
-        let hurt = damaged(&mut random, &tables, damages[0]);
-        // The second is done only where the first left pages to be read.
-        let Some(hurt) = hurt.filter(|hurt| hurt.index.len() == tables.index.len()) else {
+        let what = format!("seed {seed} {damages:?}");
+        let Some(hurt) = damaged(&mut random, &tables, damages[0]) else {
             continue;
         };
-        let heads = hurt.index[..16] == tables.index[..16];
-        let again = match heads && same::check(&hurt, &format!("seed {seed}")) {
+        let again = match same::check(&hurt, &what) {
             true => damaged(&mut random, &hurt, damages[1]).unwrap_or(hurt),
             false => bytes_copied(&mut random, hurt),
         };
-        let what = format!("seed {seed} {damages:?}");
         declined += usize::from(!same_reading(&mut random, &again, &what));
     }
     assert!(declined >= 500, "few declined: {declined}");
 }
 
 fn bytes_copied(random: &mut Random, mut tables: Tables) -> Tables {
+    if tables.index.is_empty() {
+        return tables;
+    }
     for _ in 0..random.between(1, 4) {
         let byte = *random.pick(&tables.index);
         let place = random.below(tables.index.len());
