@@ -1,9 +1,9 @@
 -- In sound tables, what is visited from the place of the lower end on is what the list gives. Assumes nothing.
-use mathlib.Core.Path.{_≡_, refl, sym, ap, subst, _∙_}
-use mathlib.Core.Bool.{Bool, true, false}
+use mathlib.Core.Path.{_≡_, sym, ap, subst, _∙_}
+use mathlib.Core.Bool.{true}
 use mathlib.Core.Option.{none, some}
-use mathlib.Core.List.{List, [], _∷_, _++_, foldl, foldl-append}
-use Prim.Native.Nat.{ℕ, zero, suc, _+_, _^_, _≤_, _<_, min}
+use mathlib.Core.List.{List, [], _∷_, _++_, foldl-append}
+use Prim.Native.Nat.{ℕ, suc, _+_, _^_, _<_, min}
 use native.Mathlib.Omega.{arith}
 use native.Mathlib.Nat.{zero-add}
 use lib.ListN.{length, take, drop, take-append-drop}
@@ -14,27 +14,26 @@ use Rattle.leaf_list.specs.LeafList.{leafList}
 use Rattle.leaf_list.specs.Register.{keyAt, inUse, herdOf}
 use Rattle.leaf_list.specs.Search.{positions}
 use Rattle.leaf_list.proofs.Laws.{liveRecords-law, passed-law}
+use Rattle.leaf_list.proofs.LiveRecords.{liveRecords-append}
 use Rattle.leaf_list.proofs.Positions.{Beyond, positions-rise, positions-beyond}
 use Rattle.leaf_list.proofs.Indexed.{foundIndex}
 use Rattle.leaf_list.proofs.RegisterHerd.{herdOf-is}
 use Rattle.leaf_list.proofs.Lists.{All, all-weaker}
-use Rattle.page_tree.specs.Tree.{Tree, depth, leaves}
+use Rattle.page_tree.specs.Tree.{Tree, leaves}
 use Rattle.index_table.specs.Layout.{layoutOf, pageBytes, levelOf}
 use Rattle.index_table.specs.Header.{widthOf, entriesOf, pagesOf, rootOf}
-use Rattle.index_table.specs.Pages.{pagesAt, nodeAt, treeAt}
+use Rattle.index_table.specs.Pages.{pagesAt, treeAt}
 use Rattle.index_table.specs.IndexNumbers.{IndexOf}
 use Rattle.index_table.specs.declared.header.Index.{Index}
 use Rattle.index_table.specs.Soundness.{Sound, rootLevel, leafEntries}
 use Rattle.index_table.proofs.SoundNodes.{sound-tree, tree-depth}
 use Rattle.index_table.proofs.SoundTables.{keys-narrow, in-use-inside, herd-narrow, herd-sorted, herd-keys}
 use Rattle.table_search.specs.Places.{leftFrom, NextPosition}
-use Rattle.table_calls.specs.declared.answer.Answer.{Answer}
-use Rattle.table_calls.specs.declared.list.Listing.{Listing}
 use Rattle.table_calls.specs.Answers.{withCount}
-use Rattle.table_calls.specs.Ranges.{recordsBetween, listed}
+use Rattle.table_calls.specs.Ranges.{recordsBetween}
 use Rattle.table_calls.specs.Listings.{State, begun, visited, visitAll, leavesFrom, Inside, FromPre, FromListed, Listed}
 use Rattle.table_calls.proofs.FoundLeaves.{descend-start}
-use Rattle.table_calls.proofs.Visits.{live-append, visitRecords, visit-live, records-below, records-herd, Filled}
+use Rattle.table_calls.proofs.Visits.{visitRecords, visit-live, records-below, records-herd, Filled}
 use Rattle.table_calls.proofs.PlaceLeaves.{leavesFrom-drop}
 
 -- Records inside the register, entry by entry.
@@ -50,7 +49,7 @@ visit-front keys a b out xs ys h =
     visit-live keys a b (out, begun) ys
     ∙ ap (λ (s : State). visitRecords keys a b s (liveRecords ys)) (sym (records-below keys a b out 0 (liveRecords xs) h))
     ∙ sym (foldl-append (λ (s : State) r. visited keys a b s (some r)) (out, begun) (liveRecords xs) (liveRecords ys))
-    ∙ ap (visitRecords keys a b (out, begun)) (sym (live-append xs ys))
+    ∙ ap (visitRecords keys a b (out, begun)) (sym (liveRecords-append xs ys))
 
 module _ {index keys used : List ℕ} (s : Sound index keys used) where
   abbrev w : ℕ
@@ -70,6 +69,7 @@ module _ {index keys used : List ℕ} (s : Sound index keys used) where
       (all-weaker (λ r. inUse used r ≡ true) (λ r. r < length keys) (recordsOf herd) (λ r h. rw (s .lengths .register) (in-use-inside s r h)) (herdOf-is keys used .uses)))
 
   module _ (a : ℕ) (narrow : a < 2 ^ w) where
+    -- How many entries the search for the lower end passes.
     i : ℕ
     i = foundIndex (positions 0 (bits w a)) (leafList w herd)
 
@@ -109,6 +109,7 @@ filled-listed a b herd before s f =
 -- The same, with the header's numbers as the code holds them.
 module _ {index keys used : List ℕ} (s : Sound index keys used) (h : Index) (x : IndexOf index h) (w a level : ℕ) (e : w ≡ h .width)
     (l : level ≡ levelOf (pageBytes (layoutOf (h .entries)) index (h .root .0))) (narrow : a < 2 ^ widthOf index) where
+  -- The walk starts at the root,
   pub list-start : (position : ℕ) → NextPosition w a 0 position → FromPre index keys (h .entries) level (h .root .0) w a position
   list-start position p =
       record {
@@ -117,6 +118,7 @@ module _ {index keys used : List ℕ} (s : Sound index keys used) (h : Index) (x
         inside = rw (l, x .entries, x .root) (leaves-inside s);
       }
 
+  -- and ends with the list's answer and slice.
   pub list-end : (b position : ℕ) (before : List ℕ) (r : State) → NextPosition w a 0 position → FromListed index keys (h .entries) level (h .root .0) w a b position 0 before r
       → Listed a b (herdOf keys used) before (withCount (r .1 .count) (r .1 .more)) (r .0)
   list-end b position before r p d =
