@@ -17,7 +17,6 @@ use Rattle.leaf_list.proofs.Laws.{liveRecords-law, passed-law}
 use Rattle.leaf_list.proofs.LiveRecords.{liveRecords-append}
 use Rattle.leaf_list.proofs.Positions.{Beyond, positions-rise, positions-beyond}
 use Rattle.leaf_list.proofs.Indexed.{foundIndex}
-use Rattle.leaf_list.proofs.RegisterHerd.{herdOf-is}
 use Rattle.leaf_list.proofs.Lists.{All, all-weaker}
 use Rattle.page_tree.specs.Tree.{Tree, leaves}
 use Rattle.index_table.specs.Layout.{layoutOf, pageBytes, levelOf}
@@ -32,15 +31,15 @@ use Rattle.table_search.specs.Places.{leftFrom, NextPosition}
 use Rattle.table_calls.specs.Answers.{withCount}
 use Rattle.table_calls.specs.Ranges.{recordsBetween}
 use Rattle.table_calls.specs.Listings.{State, begun, visited, visitAll, leavesFrom, Inside, FromPre, FromListed, Listed}
-use Rattle.table_calls.proofs.FoundLeaves.{descend-start}
+use Rattle.table_calls.proofs.FoundLeaves.{live-used, descend-start}
 use Rattle.table_calls.proofs.Visits.{visitRecords, visit-live, records-below, records-herd, Filled}
 use Rattle.table_calls.proofs.PlaceLeaves.{leavesFrom-drop}
 
 -- Records inside the register, entry by entry.
-live-inside : (keys : List ℕ) (es : List Entry) → All (λ r. r < length keys) (liveRecords es) → All (λ x. Inside keys (pointerOf x)) es
-live-inside keys [] h = tt
-live-inside keys (entry d none ∷ es) h = (tt, live-inside keys es h)
-live-inside keys (entry d (some r) ∷ es) h = (h .0, live-inside keys es (h .1))
+records-inside : (keys : List ℕ) (es : List Entry) → All (λ r. r < length keys) (liveRecords es) → All (λ x. Inside keys (pointerOf x)) es
+records-inside keys [] h = tt
+records-inside keys (entry d none ∷ es) h = (tt, records-inside keys es h)
+records-inside keys (entry d (some r) ∷ es) h = (h .0, records-inside keys es (h .1))
 
 -- Entries all of whose keys are below the lower end may be left out.
 visit-front : (keys : List ℕ) (a b : ℕ) (out : List ℕ) (xs ys : List Entry) → All (λ r. keyAt keys r < a) (liveRecords xs)
@@ -64,9 +63,9 @@ module _ {index keys used : List ℕ} (s : Sound index keys used) where
   -- Every live entry's record is one of the register.
   pub leaves-inside : All (λ x. Inside keys (pointerOf x)) (leafEntries index)
   leaves-inside =
-      live-inside keys (leafEntries index)
-      (subst (λ (rs : List ℕ). All (λ r. r < length keys) rs) (sym (ap liveRecords (s .leaves) ∙ liveRecords-law w herd (herd-narrow s) (herd-sorted s)))
-      (all-weaker (λ r. inUse used r ≡ true) (λ r. r < length keys) (recordsOf herd) (λ r h. rw (s .lengths .register) (in-use-inside s r h)) (herdOf-is keys used .uses)))
+      subst (All (λ x. Inside keys (pointerOf x))) (sym (s .leaves))
+      (records-inside keys (leafList w herd)
+      (all-weaker (λ r. inUse used r ≡ true) (λ r. r < length keys) (liveRecords (leafList w herd)) (λ r h. rw (s .lengths .register) (in-use-inside s r h)) (live-used s)))
 
   module _ (a : ℕ) (narrow : a < 2 ^ w) where
     -- How many entries the search for the lower end passes.
