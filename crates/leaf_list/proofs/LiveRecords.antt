@@ -2,10 +2,10 @@
 use mathlib.Core.Path.{_≡_, refl, _∙_, ap, sym}
 use mathlib.Core.Bool.{false, true, true≢false}
 use mathlib.Core.Option.{Option, none, some}
-use mathlib.Core.List.{List, _∷_, []}
+use mathlib.Core.List.{List, _∷_, [], _++_}
 use Prim.Native.Nat.{ℕ, suc, zero}
 use native.Mathlib.Omega.{arith}
-use Rattle.leaf_list.specs.Entries.{Entry, liveRecords}
+use Rattle.leaf_list.specs.Entries.{Entry, entry, liveRecords}
 use Rattle.leaf_list.specs.LeafList.{Item, item}
 use Rattle.leaf_list.specs.Trie.{Trie, leaf, zero-only, one-only, fork, write, join, zeroSide, oneSide, trieOf, writeAll}
 use Rattle.leaf_list.proofs.Items.{Lengths, Ordered, least-one, lengths-zero, ordered-zero, lengths-one, ordered-one}
@@ -79,3 +79,9 @@ liveRecords-writeAll (some t) = liveRecords-write t 0 0 []
 -- The live entries of the trie of rising keys have their records.
 pub liveRecords-items : (n : ℕ) (s : List Item) → Lengths n s → Ordered s → liveRecords (writeAll (trieOf n s)) ≡ itemRecords s []
 liveRecords-items n s h o = liveRecords-writeAll (trieOf n s) ∙ trieOf-records n s [] h o
+
+-- The live entries of two rows of entries.
+pub liveRecords-append : (xs ys : List Entry) → liveRecords (xs ++ ys) ≡ liveRecords xs ++ liveRecords ys
+liveRecords-append [] ys = refl
+liveRecords-append (entry d none ∷ xs) ys = liveRecords-append xs ys
+liveRecords-append (entry d (some r) ∷ xs) ys = ap (λ (l : List ℕ). r ∷ l) (liveRecords-append xs ys)

@@ -52,6 +52,11 @@ record-nil {p} h = rw (eq-eqb p 65535 h)
 pub record-live : {p : ℕ} → p ≢ 65535 → recordOf 65535 p ≡ some p
 record-live {p} h = rw (ne-eqb p 65535 h)
 
+-- The records of the live entries are in use.
+pub live-used : {index keys used : List ℕ} → Sound index keys used → All (λ x. inUse used x ≡ true) (liveRecords (leafList (widthOf index) (herdOf keys used)))
+live-used {index} {keys} {used} s =
+    subst (All (λ x. inUse used x ≡ true)) (sym (liveRecords-law (widthOf index) (herdOf keys used) (herd-narrow s) (herd-sorted s))) (herdOf-is keys used .uses)
+
 module _ {index keys used : List ℕ} (s : Sound index keys used) (key : ℕ) (narrow : key < 2 ^ widthOf index) where
   abbrev w : ℕ
   w = widthOf index
@@ -133,7 +138,7 @@ module _ {index keys used : List ℕ} (s : Sound index keys used) (key : ℕ) (n
 
     -- A live leaf's record is one of the register.
     pub live-inside : r .pointer ≢ 65535 → r .pointer < length keys
-    live-inside h = subst (λ (n : ℕ). r .pointer < n) (sym (s .lengths .register)) (in-use-inside s (r .pointer) (live-used (r .pointer) (record-live h)))
+    live-inside h = subst (λ (n : ℕ). r .pointer < n) (sym (s .lengths .register)) (in-use-inside s (r .pointer) (pointer-used (r .pointer) (record-live h)))
       where
         es : List Entry
         es = leafList w herd
@@ -141,20 +146,17 @@ module _ {index keys used : List ℕ} (s : Sound index keys used) (key : ℕ) (n
         i : ℕ
         i = foundIndex (positions 0 (bits w key)) es
 
-        used-all : All (λ x. inUse used x ≡ true) (liveRecords es)
-        used-all = subst (All (λ x. inUse used x ≡ true)) (sym (liveRecords-law w herd (herd-narrow s) (herd-sorted s))) (herdOf-is keys used .uses)
-
         whole : reverseAux (reverseAux (take i es) []) (drop i es) ≡ es
         whole = put-back (take i es) [] (drop i es) ∙ take-append-drop i es
 
         behind : All (λ x. inUse used x ≡ true) (liveRecords (drop i es))
-        behind = live-stack (λ x. inUse used x ≡ true) (reverseAux (take i es) []) (drop i es) (subst (λ (l : List Entry). All (λ x. inUse used x ≡ true) (liveRecords l)) (sym whole) used-all) .1
+        behind = live-stack (λ x. inUse used x ≡ true) (reverseAux (take i es) []) (drop i es) (subst (λ (l : List Entry). All (λ x. inUse used x ≡ true) (liveRecords l)) (sym whole) (live-used s)) .1
 
         at-front : drop i es ≡ entry (r .depth) (recordOf 65535 (r .pointer)) ∷ at .after
         at-front = sym (ap (λ (z : List Entry × List Entry). z .1) (search-index es [] (positions 0 (bits w key)))) ∙ at .entryFound
 
-        live-used : (p : ℕ) → recordOf 65535 (r .pointer) ≡ some p → inUse used p ≡ true
-        live-used p e =
+        pointer-used : (p : ℕ) → recordOf 65535 (r .pointer) ≡ some p → inUse used p ≡ true
+        pointer-used p e =
             subst (λ (l : List Entry). All (λ x. inUse used x ≡ true) (liveRecords l))
             (at-front ∙ ap (λ (o : Option ℕ). entry (r .depth) o ∷ at .after) e) behind
             .0

@@ -1,9 +1,9 @@
 -- In sound tables, what is visited from the place of the lower end on is what the list gives. Assumes nothing.
-use mathlib.Core.Path.{_≡_, refl, sym, ap, subst, _∙_}
-use mathlib.Core.Bool.{Bool, true, false}
+use mathlib.Core.Path.{_≡_, sym, ap, subst, _∙_}
+use mathlib.Core.Bool.{true}
 use mathlib.Core.Option.{none, some}
-use mathlib.Core.List.{List, [], _∷_, _++_, foldl, foldl-append}
-use Prim.Native.Nat.{ℕ, zero, suc, _+_, _^_, _≤_, _<_, min}
+use mathlib.Core.List.{List, [], _∷_, _++_, foldl-append}
+use Prim.Native.Nat.{ℕ, suc, _+_, _^_, _<_, min}
 use native.Mathlib.Omega.{arith}
 use native.Mathlib.Nat.{zero-add}
 use lib.ListN.{length, take, drop, take-append-drop}
@@ -14,34 +14,32 @@ use Rattle.leaf_list.specs.LeafList.{leafList}
 use Rattle.leaf_list.specs.Register.{keyAt, inUse, herdOf}
 use Rattle.leaf_list.specs.Search.{positions}
 use Rattle.leaf_list.proofs.Laws.{liveRecords-law, passed-law}
+use Rattle.leaf_list.proofs.LiveRecords.{liveRecords-append}
 use Rattle.leaf_list.proofs.Positions.{Beyond, positions-rise, positions-beyond}
 use Rattle.leaf_list.proofs.Indexed.{foundIndex}
-use Rattle.leaf_list.proofs.RegisterHerd.{herdOf-is}
 use Rattle.leaf_list.proofs.Lists.{All, all-weaker}
-use Rattle.page_tree.specs.Tree.{Tree, depth, leaves}
+use Rattle.page_tree.specs.Tree.{Tree, leaves}
 use Rattle.index_table.specs.Layout.{layoutOf, pageBytes, levelOf}
 use Rattle.index_table.specs.Header.{widthOf, entriesOf, pagesOf, rootOf}
-use Rattle.index_table.specs.Pages.{pagesAt, nodeAt, treeAt}
+use Rattle.index_table.specs.Pages.{pagesAt, treeAt}
 use Rattle.index_table.specs.IndexNumbers.{IndexOf}
 use Rattle.index_table.specs.declared.header.Index.{Index}
 use Rattle.index_table.specs.Soundness.{Sound, rootLevel, leafEntries}
 use Rattle.index_table.proofs.SoundNodes.{sound-tree, tree-depth}
 use Rattle.index_table.proofs.SoundTables.{keys-narrow, in-use-inside, herd-narrow, herd-sorted, herd-keys}
 use Rattle.table_search.specs.Places.{leftFrom, NextPosition}
-use Rattle.table_calls.specs.declared.answer.Answer.{Answer}
-use Rattle.table_calls.specs.declared.list.Listing.{Listing}
 use Rattle.table_calls.specs.Answers.{withCount}
-use Rattle.table_calls.specs.Ranges.{recordsBetween, listed}
+use Rattle.table_calls.specs.Ranges.{recordsBetween}
 use Rattle.table_calls.specs.Listings.{State, begun, visited, visitAll, leavesFrom, Inside, FromPre, FromListed, Listed}
-use Rattle.table_calls.proofs.FoundLeaves.{descend-start}
-use Rattle.table_calls.proofs.Visits.{live-append, visitRecords, visit-live, records-below, records-herd, Filled}
+use Rattle.table_calls.proofs.FoundLeaves.{live-used, descend-start}
+use Rattle.table_calls.proofs.Visits.{visitRecords, visit-live, records-below, records-herd, Filled}
 use Rattle.table_calls.proofs.PlaceLeaves.{leavesFrom-drop}
 
 -- Records inside the register, entry by entry.
-live-inside : (keys : List ℕ) (es : List Entry) → All (λ r. r < length keys) (liveRecords es) → All (λ x. Inside keys (pointerOf x)) es
-live-inside keys [] h = tt
-live-inside keys (entry d none ∷ es) h = (tt, live-inside keys es h)
-live-inside keys (entry d (some r) ∷ es) h = (h .0, live-inside keys es (h .1))
+records-inside : (keys : List ℕ) (es : List Entry) → All (λ r. r < length keys) (liveRecords es) → All (λ x. Inside keys (pointerOf x)) es
+records-inside keys [] h = tt
+records-inside keys (entry d none ∷ es) h = (tt, records-inside keys es h)
+records-inside keys (entry d (some r) ∷ es) h = (h .0, records-inside keys es (h .1))
 
 -- Entries all of whose keys are below the lower end may be left out.
 visit-front : (keys : List ℕ) (a b : ℕ) (out : List ℕ) (xs ys : List Entry) → All (λ r. keyAt keys r < a) (liveRecords xs)
@@ -50,7 +48,7 @@ visit-front keys a b out xs ys h =
     visit-live keys a b (out, begun) ys
     ∙ ap (λ (s : State). visitRecords keys a b s (liveRecords ys)) (sym (records-below keys a b out 0 (liveRecords xs) h))
     ∙ sym (foldl-append (λ (s : State) r. visited keys a b s (some r)) (out, begun) (liveRecords xs) (liveRecords ys))
-    ∙ ap (visitRecords keys a b (out, begun)) (sym (live-append xs ys))
+    ∙ ap (visitRecords keys a b (out, begun)) (sym (liveRecords-append xs ys))
 
 module _ {index keys used : List ℕ} (s : Sound index keys used) where
   abbrev w : ℕ
@@ -65,11 +63,12 @@ module _ {index keys used : List ℕ} (s : Sound index keys used) where
   -- Every live entry's record is one of the register.
   pub leaves-inside : All (λ x. Inside keys (pointerOf x)) (leafEntries index)
   leaves-inside =
-      live-inside keys (leafEntries index)
-      (subst (λ (rs : List ℕ). All (λ r. r < length keys) rs) (sym (ap liveRecords (s .leaves) ∙ liveRecords-law w herd (herd-narrow s) (herd-sorted s)))
-      (all-weaker (λ r. inUse used r ≡ true) (λ r. r < length keys) (recordsOf herd) (λ r h. rw (s .lengths .register) (in-use-inside s r h)) (herdOf-is keys used .uses)))
+      subst (All (λ x. Inside keys (pointerOf x))) (sym (s .leaves))
+      (records-inside keys (leafList w herd)
+      (all-weaker (λ r. inUse used r ≡ true) (λ r. r < length keys) (liveRecords (leafList w herd)) (λ r h. rw (s .lengths .register) (in-use-inside s r h)) (live-used s)))
 
   module _ (a : ℕ) (narrow : a < 2 ^ w) where
+    -- How many entries the search for the lower end passes.
     i : ℕ
     i = foundIndex (positions 0 (bits w a)) (leafList w herd)
 
@@ -109,6 +108,7 @@ filled-listed a b herd before s f =
 -- The same, with the header's numbers as the code holds them.
 module _ {index keys used : List ℕ} (s : Sound index keys used) (h : Index) (x : IndexOf index h) (w a level : ℕ) (e : w ≡ h .width)
     (l : level ≡ levelOf (pageBytes (layoutOf (h .entries)) index (h .root .0))) (narrow : a < 2 ^ widthOf index) where
+  -- The walk starts at the root,
   pub list-start : (position : ℕ) → NextPosition w a 0 position → FromPre index keys (h .entries) level (h .root .0) w a position
   list-start position p =
       record {
@@ -117,6 +117,7 @@ module _ {index keys used : List ℕ} (s : Sound index keys used) (h : Index) (x
         inside = rw (l, x .entries, x .root) (leaves-inside s);
       }
 
+  -- and ends with the list's answer and slice.
   pub list-end : (b position : ℕ) (before : List ℕ) (r : State) → NextPosition w a 0 position → FromListed index keys (h .entries) level (h .root .0) w a b position 0 before r
       → Listed a b (herdOf keys used) before (withCount (r .1 .count) (r .1 .more)) (r .0)
   list-end b position before r p d =

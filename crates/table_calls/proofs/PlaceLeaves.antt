@@ -20,6 +20,7 @@ use Rattle.table_calls.specs.Listings.{leavesFrom}
 abbrev entriesFrom : List ℕ → ℕ → List Entry → List Entry
 entriesFrom = walk (depth 0) (λ bs τ e es. e ∷ es) (λ e r. r) []
 
+-- They are what is left once the passed entries are dropped.
 entriesFrom-drop : (bs : List ℕ) (τ : ℕ) (es : List Entry) → entriesFrom bs τ es ≡ drop (foundIndex bs es) es
 entriesFrom-drop bs τ [] = refl
 entriesFrom-drop [] τ (e ∷ es) = refl

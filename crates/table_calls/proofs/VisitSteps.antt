@@ -1,17 +1,15 @@
 -- What a visit makes of one entry, case by case. Assumes nothing.
-use mathlib.Core.Path.{_≡_, refl, sym, ap, _∙_}
+use mathlib.Core.Path.{_≡_, sym, ap, _∙_}
 use mathlib.Core.Logic.{_≢_}
-use mathlib.Core.Bool.{true, false, cond}
-use mathlib.Core.Option.{none, some}
 use mathlib.Core.List.{List}
-use Prim.Native.Nat.{ℕ, suc, _+_, _≤_, _<_}
+use Prim.Native.Nat.{ℕ, _+_, _≤_, _<_}
 use native.Mathlib.Numerals.{add-one}
 use lib.ListN.{length, set}
 use borrow.Author.Tests.{lt-ltb, le-ltb}
 use Rattle.leaf_list.specs.Register.{keyAt}
 use Rattle.index_table.specs.Pages.{recordOf}
 use Rattle.table_calls.specs.declared.list.Listing.{Listing}
-use Rattle.table_calls.specs.Listings.{State, going, ended, full, met, visited, VisitPre}
+use Rattle.table_calls.specs.Listings.{going, ended, full, met, visited, VisitPre}
 use Rattle.table_calls.proofs.FoundLeaves.{record-nil, record-live}
 
 module _ (keys : List ℕ) (a b : ℕ) (out : List ℕ) (l : Listing) (stored : ℕ) (pre : VisitPre keys stored l) where
@@ -25,6 +23,7 @@ module _ (keys : List ℕ) (a b : ℕ) (out : List ℕ) (l : Listing) (stored : 
     pub visited-inside : r < length keys
     visited-inside = rw (← live .1) (pre .inside (live .0))
 
+    -- It is met with its key.
     visited-met : met a b (keyAt keys r) (out, l) r ≡ visited keys a b (out, l) (recordOf 65535 stored)
     unfolding visited
     visited-met = rw (record-live (live .0), pre .goes-on, live .1)

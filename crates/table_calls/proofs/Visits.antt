@@ -2,12 +2,12 @@
 use mathlib.Core.Path.{_≡_, refl, sym, ap, subst, _∙_}
 use mathlib.Core.Bool.{Bool, true, false, cond, _&&_}
 use mathlib.Core.Option.{Option, none, some}
-use mathlib.Core.List.{List, [], _∷_, _++_, append-nil, append-assoc, foldl, foldl-append}
-use Prim.Native.Nat.{ℕ, zero, suc, _+_, _≤_, _<_, min, compare·suc-suc}
+use mathlib.Core.List.{List, [], _∷_, _++_, append-assoc, foldl}
+use Prim.Native.Nat.{ℕ, suc, _+_, _≤_, _<_, min, compare·suc-suc}
 use native.Mathlib.Omega.{arith}
 use lib.Dec.{leb, ltb, isLe}
-use lib.ListN.{length, set, take, drop, take-append-drop, length-append}
-use lib.Seq.{take-nil, drop-nil, set-append-seam, append-snoc}
+use lib.ListN.{length, length-append}
+use lib.Seq.{take-nil, set-append-seam}
 use borrow.Author.Tests.{ltb-true, ltb-false, lt-ltb, le-ltb, le-leb, lt-leb}
 use Rattle.leaf_list.specs.Entries.{Entry, entry, pointerOf, liveRecords}
 use Rattle.leaf_list.specs.Herd.{Herd, Above, Sorted, KeysOf, recordsOf}
@@ -16,12 +16,6 @@ use Rattle.leaf_list.proofs.Lists.{All}
 use Rattle.table_calls.specs.declared.list.Listing.{Listing}
 use Rattle.table_calls.specs.Ranges.{between, recordsBetween, listSlice}
 use Rattle.table_calls.specs.Listings.{State, going, ended, full, written, met, visited, visitAll}
-
--- The live entries of two rows.
-pub live-append : (xs ys : List Entry) → liveRecords (xs ++ ys) ≡ liveRecords xs ++ liveRecords ys
-live-append [] ys = refl
-live-append (entry d none ∷ xs) ys = live-append xs ys
-live-append (entry d (some r) ∷ xs) ys = ap (λ (l : List ℕ). r ∷ l) (live-append xs ys)
 
 -- No key above b lies from a to b.
 between-above : (a b k : ℕ) (s : Herd) → b ≤ k → Above k s → between a b s ≡ []
@@ -38,12 +32,15 @@ pub record Filled (xs ys R : List ℕ) (s : State) : Type 0 where
   pub count : s .1 .count ≡ length xs + min (length R) (length ys)
   pub more : s .1 .more ≡ ltb (length ys) (length R)
 
+-- Nothing more is written.
 filled-none : (xs ys : List ℕ) (l : Listing) → l .count ≡ length xs → l .more ≡ false → Filled xs ys [] (xs ++ ys, l)
 filled-none xs ys l e f = record { slice = rw (take-nil (length ys)); count = omega arith; more = f ∙ sym (le-ltb (length ys) 0 (omega arith)) }
 
+-- Nothing more can be written.
 filled-full : (xs R : List ℕ) (r : ℕ) → Filled xs [] (r ∷ R) (xs ++ [], full (length xs))
 filled-full xs R r = record { slice = refl; count = omega arith; more = sym (lt-ltb 0 (suc (length R)) (omega arith)) }
 
+-- One record more is written.
 filled-more : (xs ys R : List ℕ) (r y : ℕ) (s : State) → Filled (xs ++ (r ∷ [])) ys R s → Filled xs (y ∷ ys) (r ∷ R) s
 filled-more xs ys R r y s f =
     record {
@@ -70,10 +67,12 @@ module _ (keys : List ℕ) (a b : ℕ) where
   visited-over s none h = refl
   visited-over s (some r) h = rw h
 
+  -- So over any entries,
   pub visit-over : (s : State) (es : List Entry) → s .1 .over ≡ true → visitAll keys a b s es ≡ s
   visit-over s [] h = refl
   visit-over s (e ∷ es) h = rw (visited-over s (pointerOf e) h) (visit-over s es h)
 
+  -- and over any records.
   records-over : (s : State) (rs : List ℕ) → s .1 .over ≡ true → visitRecords s rs ≡ s
   records-over s [] h = refl
   records-over s (r ∷ rs) h = rw (visited-over s (some r) h) (records-over s rs h)

@@ -1,7 +1,7 @@
 -- A list under way: what is done at each entry on level 0, and which entries are walked. Assumes nothing.
 use mathlib.Core.Path.{_≡_}
 use mathlib.Core.Logic.{_≢_}
-use mathlib.Core.Bool.{Bool, true, false, cond}
+use mathlib.Core.Bool.{true, false, cond}
 use mathlib.Core.Option.{Option, none, some}
 use mathlib.Core.List.{List, [], _∷_, _++_, map, foldl}
 use Prim.Native.Nat.{ℕ, zero, suc, _≤_, _<_}
@@ -27,24 +27,27 @@ use Rattle.table_calls.specs.Ranges.{recordsBetween, listed, listSlice}
 abbrev pub State : Type 0
 State = List ℕ × Listing
 
--- n records are written and the list goes on; it met a key above the upper end; it met one more, and the slice is full.
+-- n records are written, and the list goes on;
 abbrev pub going : ℕ → Listing
 going n = record { count = n; more = false; over = false }
 
+-- it met a key above the upper end;
 abbrev pub ended : ℕ → Listing
 ended n = record { count = n; more = false; over = true }
 
+-- it met one record more, and the slice was full.
 abbrev pub full : ℕ → Listing
 full n = record { count = n; more = true; over = true }
 
+-- Nothing is written yet.
 abbrev pub begun : Listing
 begun = going 0
 
--- A record with a key from a to b is written where there is room.
+-- "as many as the lent slice holds": a record with a key from a to b is written where there is room.
 abbrev pub written : List ℕ → ℕ → ℕ → State
 written out n r = cond (ltb n (length out)) (set out n r, going (suc n)) (out, full n)
 
--- A record that is met with its key: a key below a is passed, and one above b ends the list.
+-- "for keys from a to b inclusive, in key order", a record that is met with its key: a key below a is passed, and one above b ends the list.
 abbrev pub met : ℕ → ℕ → ℕ → State → ℕ → State
 met a b key s r = cond (ltb key a) s (cond (ltb b key) (s .0, ended (s .1 .count)) (written (s .0) (s .1 .count) r))
 
@@ -53,6 +56,7 @@ unfoldable pub visited : List ℕ → ℕ → ℕ → State → Option ℕ → S
 visited keys a b s none = s
 visited keys a b s (some r) = cond (s .1 .over) s (met a b (keyAt keys r) s r)
 
+-- Entries from left to right.
 abbrev pub visitAll : List ℕ → ℕ → ℕ → State → List Entry → State
 visitAll keys a b s es = foldl (λ (z : State) e. visited keys a b z (pointerOf e)) s es
 
@@ -65,7 +69,7 @@ leavesFrom (suc n) bs τ page = walk (depth n) (λ bs τ x xs. leavesFrom n bs �
 
 -- The entries on level 0 below a page of level n, from one of its entries on.
 abbrev pub leavesRight : List ℕ → ℕ → ℕ → ℕ → ℕ → List Entry
-leavesRight b e n page from = flats (leaves n) (map (nodeAt 65535 n (pagesAt (layoutOf e) b)) (drop from (pagesAt (layoutOf e) b page)))
+leavesRight index e n page from = flats (leaves n) (map (nodeAt 65535 n (pagesAt (layoutOf e) index)) (drop from (pagesAt (layoutOf e) index page)))
 
 -- The entry's record, if any, is one of the register.
 abbrev pub Inside : List ℕ → Option ℕ → Type 0
@@ -74,31 +78,32 @@ Inside keys (some r) = r < length keys
 
 -- ---- contracts
 
+-- The list goes on, and a stored pointer that is not NIL is a record of the register.
 pub record VisitPre (keys : List ℕ) (stored : ℕ) (l : Listing) : Type 0 where
   pub inside : stored ≢ 65535 → stored < length keys
   pub goes-on : l .over ≡ false
 
 -- A sound page of level n, whose live entries on level 0 are records of the register.
-pub record RowPre (b keys : List ℕ) (e n page : ℕ) : Type 0 where
+pub record RowPre (index keys : List ℕ) (e n page : ℕ) : Type 0 where
   pub P : ℕ
   pub closing : ℕ
-  pub sound : SoundBelow (layoutOf e) P (suc n) b (closing, page)
-  pub table : pageStart (layoutOf e) P ≤ length b
-  pub inside : All (λ x. Inside keys (pointerOf x)) (leaves (suc n) (nodeAt 65535 (suc n) (pagesAt (layoutOf e) b) (closing, page)))
+  pub sound : SoundBelow (layoutOf e) P (suc n) index (closing, page)
+  pub table : pageStart (layoutOf e) P ≤ length index
+  pub inside : All (λ x. Inside keys (pointerOf x)) (leaves (suc n) (nodeAt 65535 (suc n) (pagesAt (layoutOf e) index) (closing, page)))
 
 -- What is below the entries of a page from one of them on was visited.
-pub record RowListed (b keys : List ℕ) (e n page from a z : ℕ) (s r : State) : Type 0 where
-  pub walked : r ≡ visitAll keys a z s (leavesRight b e n page from)
+pub record RowListed (index keys : List ℕ) (e n page from a b : ℕ) (s r : State) : Type 0 where
+  pub walked : r ≡ visitAll keys a b s (leavesRight index e n page from)
 
 -- A sound page that covers the place of the lower end.
-pub record FromPre (b keys : List ℕ) (e n page w a position : ℕ) : Type 0 where
+pub record FromPre (index keys : List ℕ) (e n page w a position : ℕ) : Type 0 where
   pub P : ℕ
-  pub place : DescendPre b e P n page w a position
-  pub inside : All (λ x. Inside keys (pointerOf x)) (leaves (suc n) (nodeAt 65535 (suc n) (pagesAt (layoutOf e) b) (0, page)))
+  pub place : DescendPre index e P n page w a position
+  pub inside : All (λ x. Inside keys (pointerOf x)) (leaves (suc n) (nodeAt 65535 (suc n) (pagesAt (layoutOf e) index) (0, page)))
 
 -- What is below a page from the place of the lower end on was visited.
-pub record FromListed (b keys : List ℕ) (e n page w a z position trail : ℕ) (out : List ℕ) (r : State) : Type 0 where
-  pub walked : r ≡ visitAll keys a z (out, begun) (leavesFrom (suc n) (leftFrom w a position) trail (nodeAt 65535 (suc n) (pagesAt (layoutOf e) b) (0, page)))
+pub record FromListed (index keys : List ℕ) (e n page w a b position trail : ℕ) (out : List ℕ) (r : State) : Type 0 where
+  pub walked : r ≡ visitAll keys a b (out, begun) (leavesFrom (suc n) (leftFrom w a position) trail (nodeAt 65535 (suc n) (pagesAt (layoutOf e) index) (0, page)))
 
 -- The answer and the lent slice of a list.
 pub record Listed (a b : ℕ) (herd : Herd) (before : List ℕ) (answer : Answer) (after : List ℕ) : Type 0 where

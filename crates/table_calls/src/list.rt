@@ -16,7 +16,7 @@ use index_table::layout::pointer;
 use table_search::seek;
 
 // How far a list has come: the records written, whether one more was met that found no room, and whether nothing further is to be met.
-pub struct Listing {
+struct Listing {
     pub count: usize,
     pub more: bool,
     pub over: bool,

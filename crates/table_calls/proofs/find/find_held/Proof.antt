@@ -54,7 +54,7 @@ returns-2 c =
     let start = answer .before .before .before .before .before in
     let live = live-pointer _ _ _ (answer .answer-of .ensures) (at .answer .given .1) in
     c .plain2 .ensures
-    ∙ other-absent (start .pre .0) _ (start .pre .1) _ (answer .before .leaf-of .ensures) (live .0) (subst (λ (n : ℕ). getD (start .args .keys .now) n 0 ≡ start .args .key → ⊥) (sym (live .1)) (c .before .if1 .taken))
+    ∙ other-absent (start .pre .0) _ (start .pre .1) _ (answer .before .leaf-of .ensures) (live .0) (subst (λ (n : ℕ). getD (start .args .keys .now) n 0 ≡ start .args .key → ⊥) (sym (live .1)) (λ q. omega arith))
 
 with-record-requires : tie.Need-with-record-requires
 with-record-requires c κs = search needs
@@ -66,7 +66,7 @@ returns-3 c =
     let start = answer .before .before .before .before .before in
     let live = live-pointer _ _ _ (answer .answer-of .ensures) (at .answer .given .1) in
     c .with-record .ensures ∙ ap withRecord (sym (live .1))
-    ∙ live-found (start .pre .0) _ (start .pre .1) _ (answer .before .leaf-of .ensures) (live .0) (subst (λ (n : ℕ). getD (start .args .keys .now) n 0 ≡ start .args .key) (sym (live .1)) (c .before .if1 .left))
+    ∙ live-found (start .pre .0) _ (start .pre .1) _ (answer .before .leaf-of .ensures) (live .0) (subst (λ (n : ℕ). getD (start .args .keys .now) n 0 ≡ start .args .key) (sym (live .1)) (omega arith))
 
 pub find-held-spec : {M : Type 1} → statement M
 find-held-spec =

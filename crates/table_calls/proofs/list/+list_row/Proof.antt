@@ -1,6 +1,6 @@
 -- All below each entry, one entry a turn; a page of level 0 has only its entries. Assumes nothing.
 use borrow.Author.Needs.{needs}
-use mathlib.Core.Path.{_≡_, sym, _∙_}
+use mathlib.Core.Path.{sym, _∙_}
 use Prim.Native.Nat.{ℕ, _-_, _<_}
 use native.Mathlib.Omega.{arith}
 use Rattle.index_table.proofs.PageRows.{length-refs}

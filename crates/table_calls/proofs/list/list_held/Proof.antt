@@ -1,6 +1,6 @@
 -- From the root, with the lower end's first position. Assumes nothing.
 use borrow.Author.Needs.{needs}
-use mathlib.Core.Path.{_≡_, sym, subst, _∙_}
+use mathlib.Core.Path.{_∙_}
 use native.Mathlib.Omega.{arith}
 use Rattle.index_table.proofs.SoundTables.{header-long}
 use Rattle.table_calls.proofs.FoundLeaves.{root-page, width-high, key-narrow}

@@ -1,11 +1,9 @@
 -- Each turn visits one entry; a list that is over stops at once. Assumes nothing.
 use borrow.Author.Needs.{needs}
-use mathlib.Core.Path.{_≡_, sym, ap, _∙_}
-use Prim.Native.Nat.{ℕ, _+_, _-_, _≤_, _<_}
+use mathlib.Core.Path.{sym, _∙_}
+use Prim.Native.Nat.{_-_}
 use native.Mathlib.Omega.{arith}
-use lib.ListN.{length}
 use Rattle.index_table.proofs.PageRows.{length-refs}
-use Rattle.table_calls.specs.Listings.{State}
 use Rattle.table_calls.proofs.RowWalks.{row-within, row-short, leaf-visit, leaf-visited, Walking, walking-start, walking-more, walking-over, walking-end}
 use Rattle.table_calls.proofs.list.list_leaves.Statement.{statement}
 use Rattle.table_calls.proofs.list.list_leaves.Tie as tie

@@ -1,5 +1,6 @@
 -- A visit's cases are the code's returns. Assumes nothing.
 use borrow.Author.Needs.{needs}
+use native.Mathlib.Omega.{arith}
 use Rattle.table_calls.proofs.FoundLeaves.{dummy-pointer, live-pointer}
 use Rattle.table_calls.proofs.VisitSteps.{visited-dummy, visited-inside, visited-below, visited-ended, visited-full, visited-written}
 use Rattle.table_calls.proofs.list.visit.Statement.{statement}
@@ -35,19 +36,19 @@ returns-2 : tie.Need-returns-2
 returns-2 c =
     let live = c .before .before .before .before in
     let answer = live .before .before in
-    visited-below _ _ _ _ _ _ (answer .before .before .before .pre) _ (live-pointer _ _ _ (answer .answer-of .ensures) (live .answer .given .1)) (c .if1 .taken)
+    visited-below _ _ _ _ _ _ (answer .before .before .before .pre) _ (live-pointer _ _ _ (answer .answer-of .ensures) (live .answer .given .1)) (omega arith)
 
 returns-3 : tie.Need-returns-3
 returns-3 c =
     let live = c .before .before .before .before .before in
     let answer = live .before .before in
-    visited-ended _ _ _ _ _ _ (answer .before .before .before .pre) _ (live-pointer _ _ _ (answer .answer-of .ensures) (live .answer .given .1)) (c .before .if1 .left) (c .if2 .taken)
+    visited-ended _ _ _ _ _ _ (answer .before .before .before .pre) _ (live-pointer _ _ _ (answer .answer-of .ensures) (live .answer .given .1)) (omega arith) (omega arith)
 
 returns-4 : tie.Need-returns-4
 returns-4 c =
     let live = c .before .before .before .before .before .before in
     let answer = live .before .before in
-    visited-full _ _ _ _ _ _ (answer .before .before .before .pre) _ (live-pointer _ _ _ (answer .answer-of .ensures) (live .answer .given .1)) (c .before .before .if1 .left) (c .before .if2 .left) (c .if3 .taken)
+    visited-full _ _ _ _ _ _ (answer .before .before .before .pre) _ (live-pointer _ _ _ (answer .answer-of .ensures) (live .answer .given .1)) (omega arith) (omega arith) (omega arith)
 
 mul-out : tie.Need-mul-out
 mul-out c = search needs
@@ -65,7 +66,7 @@ returns-5 : tie.Need-returns-5
 returns-5 c =
     let live = c .before .before .before .before .before .before in
     let answer = live .before .before in
-    visited-written _ _ _ _ _ _ (answer .before .before .before .pre) _ (live-pointer _ _ _ (answer .answer-of .ensures) (live .answer .given .1)) (c .before .before .if1 .left) (c .before .if2 .left) (c .if3 .left)
+    visited-written _ _ _ _ _ _ (answer .before .before .before .pre) _ (live-pointer _ _ _ (answer .answer-of .ensures) (live .answer .given .1)) (omega arith) (omega arith) (omega arith)
 
 pub visit-spec : {M : Type 1} → statement M
 visit-spec =
