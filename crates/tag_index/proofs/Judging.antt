@@ -1,54 +1,66 @@
--- The answers of the calls that only read, row by row. Assumes nothing.
-use mathlib.Core.Path.{_≡_, sym, ap, _∙_}
-use mathlib.Core.Logic.{_↔_}
-use mathlib.Core.Bool.{Bool, true, false}
+-- The rows before the work of a call. Assumes nothing.
+use mathlib.Core.Path.{_≡_, refl, sym, ap, _∙_}
+use mathlib.Core.Logic.{_↔_, _≢_}
+use mathlib.Core.Bool.{Bool, true, false, cond, _||_}
 use mathlib.Core.List.{List}
-use Prim.Native.Nat.{ℕ, _^_}
-use lib.Dec.{leb}
-use Rattle.leaf_list.specs.Herd.{lookup}
-use Rattle.leaf_list.specs.Register.{herdOf}
+use Prim.Native.Nat.{ℕ, zero, suc, _^_}
+use native.Mathlib.Omega.{arith}
+use lib.Dec.{leb, eqb·suc-zero}
 use Rattle.index_table.specs.Header.{widthOf}
 use Rattle.index_table.specs.Soundness.{Sound}
 use Rattle.table_calls.specs.declared.answer.Answer.{Answer}
-use Rattle.table_calls.specs.Answers.{plain, found}
-use Rattle.table_calls.specs.Listings.{Listed}
-use Rattle.tag_index.specs.Reading.{Judged, tooWide, FindDoes, ListDoes}
-
-module _ {index keys used : List ℕ} (sound : Bool) (decides : (sound ≡ true) ↔ Sound index keys used) where
-  judged : Judged index keys used
-  judged = record { sound = sound; decides = decides }
-
-  module _ (key : ℕ) (r : Answer) where
-    pub find-unsound : sound ≡ false → r ≡ plain 1 → FindDoes index keys used key r
-    unfolding judged
-    find-unsound s e = record { judged = judged; answer = rw s e }
-
-    pub find-wide : sound ≡ true → tooWide (widthOf index) key ≡ true → r ≡ plain 2 → FindDoes index keys used key r
-    unfolding judged
-    find-wide s t e = record { judged = judged; answer = rw (s, t) e }
-
-    pub find-done : sound ≡ true → tooWide (widthOf index) key ≡ false → r ≡ found (lookup key (herdOf keys used)) → FindDoes index keys used key r
-    unfolding judged
-    find-done s t e = record { judged = judged; answer = rw (s, t) e }
-
-  -- The lower end is tested before the upper.
-  module _ (a b : ℕ) (out out₁ : List ℕ) (r : Answer) where
-    pub list-unsound : sound ≡ false → r ≡ plain 1 → out₁ ≡ out → ListDoes index keys used a b out out₁ r
-    unfolding judged
-    list-unsound s e k = record { judged = judged; answer = rw s e; slice = rw s k }
-
-    pub list-lower-wide : sound ≡ true → tooWide (widthOf index) a ≡ true → r ≡ plain 2 → out₁ ≡ out → ListDoes index keys used a b out out₁ r
-    unfolding judged
-    list-lower-wide s t e k = record { judged = judged; answer = rw (s, t) e; slice = rw (s, t) k }
-
-    pub list-upper-wide : sound ≡ true → tooWide (widthOf index) a ≡ false → tooWide (widthOf index) b ≡ true → r ≡ plain 2 → out₁ ≡ out → ListDoes index keys used a b out out₁ r
-    unfolding judged
-    list-upper-wide s t u e k = record { judged = judged; answer = rw (s, t, u) e; slice = rw (s, t, u) k }
-
-    pub list-done : sound ≡ true → tooWide (widthOf index) a ≡ false → tooWide (widthOf index) b ≡ false → Listed a b (herdOf keys used) out r out₁ → ListDoes index keys used a b out out₁ r
-    unfolding judged
-    list-done s t u d = record { judged = judged; answer = rw (s, t, u) (d .answered); slice = rw (s, t, u) (d .slice) }
+use Rattle.table_calls.specs.Answers.{plain}
+use Rattle.tag_index.specs.Reading.{Judged, tooWide, firstRow, FirstRow, behind, keptBehind}
 
 -- A test of the width read is one of the header's width.
 pub wide-is : {w v : ℕ} (key : ℕ) {t : Bool} → w ≡ v → t ≡ leb (2 ^ w) key → tooWide v key ≡ t
 wide-is key e q = sym (q ∙ ap (λ (n : ℕ). leb (2 ^ n) key) e)
+
+-- ---- which row applies
+
+module _ {index keys used : List ℕ} (sound : Bool) (decides : (sound ≡ true) ↔ Sound index keys used) (a b : ℕ) where
+  judged : Judged index keys used
+  judged = record { sound = sound; decides = decides }
+
+  pub row-unsound : sound ≡ false → FirstRow index keys used a b 1
+  unfolding judged
+  row-unsound s = record { judged = judged; number = rw s refl }
+
+  pub row-lower : sound ≡ true → tooWide (widthOf index) a ≡ true → FirstRow index keys used a b 2
+  unfolding judged
+  row-lower s t = record { judged = judged; number = rw (s, t) refl }
+
+  pub row-upper : sound ≡ true → tooWide (widthOf index) a ≡ false → tooWide (widthOf index) b ≡ true → FirstRow index keys used a b 2
+  unfolding judged
+  row-upper s t u = record { judged = judged; number = rw (s, t, u) refl }
+
+  pub row-none : sound ≡ true → tooWide (widthOf index) a ≡ false → tooWide (widthOf index) b ≡ false → FirstRow index keys used a b 0
+  unfolding judged
+  row-none s t u = record { judged = judged; number = rw (s, t, u) refl }
+
+-- Where neither row applies, the tables are sound and the keys fit.
+none-applies : (sound t u : Bool) → cond sound (cond (t || u) 2 0) 1 ≡ zero → (sound ≡ true) × (t ≡ false)
+none-applies true true u e = absurd (omega (arith, e))
+none-applies true false u e = (refl, refl)
+none-applies false t u e = absurd (omega (arith, e))
+
+pub none-sound : {index keys used : List ℕ} {a b row : ℕ} → FirstRow index keys used a b row → row ≡ 0 → Sound index keys used × (tooWide (widthOf index) a ≡ false)
+none-sound {index} {keys} {used} {a} {b} f z =
+    let both = none-applies (f .judged .sound) (tooWide (widthOf index) a) (tooWide (widthOf index) b) (sym (f .number) ∙ z) in
+    (f .judged .decides .0 (both .0), both .1)
+
+-- ---- what stands behind a row
+
+pub behind-declined : (row : ℕ) {m : ℕ} (done r : Answer) → row ≡ m → row ≢ 0 → r ≡ plain row → r ≡ behind m done
+behind-declined zero done r e k q = absurd (k refl)
+behind-declined (suc n) done r e k q = rw (sym e, eqb·suc-zero n) q
+
+pub behind-done : {row m : ℕ} (done r : Answer) → row ≡ m → row ≡ 0 → r ≡ done → r ≡ behind m done
+behind-done done r e z q = rw (sym e, z) q
+
+pub kept-declined : (row : ℕ) {m : ℕ} (before after : List ℕ) → row ≡ m → row ≢ 0 → before ≡ keptBehind m before after
+kept-declined zero before after e k = absurd (k refl)
+kept-declined (suc n) before after e k = rw (sym e, eqb·suc-zero n) refl
+
+pub kept-done : {row m : ℕ} (before after : List ℕ) → row ≡ m → row ≡ 0 → after ≡ keptBehind m before after
+kept-done before after e z = rw (sym e, z) refl

@@ -4,9 +4,9 @@ use mathlib.Core.Logic.{_↔_}
 use mathlib.Core.Bool.{Bool, true, cond, _||_}
 use mathlib.Core.List.{List}
 use Prim.Native.Nat.{ℕ, _^_}
-use lib.Dec.{leb}
+use lib.Dec.{leb, eqb}
 use lib.ListN.{length}
-use Rattle.leaf_list.specs.Herd.{Herd, lookup}
+use Rattle.leaf_list.specs.Herd.{lookup}
 use Rattle.leaf_list.specs.Register.{herdOf}
 use Rattle.index_table.specs.Header.{widthOf}
 use Rattle.index_table.specs.Soundness.{Sound}
@@ -23,22 +23,29 @@ pub record Judged (index keys used : List ℕ) : Type 0 where
 abbrev pub tooWide : ℕ → ℕ → Bool
 tooWide w key = leb (2 ^ w) key
 
--- Rows 1, 2 and 6.
-abbrev pub findAnswer : Bool → ℕ → Herd → ℕ → Answer
-findAnswer sound w herd key = cond sound (cond (tooWide w key) (plain 2) (found (lookup key herd))) (plain 1)
+-- Rows 1 and 2, the first that applies to the tables and to two keys; 0 if neither does.
+abbrev pub firstRow : Bool → ℕ → ℕ → ℕ → ℕ
+firstRow sound w a b = cond sound (cond (tooWide w a || tooWide w b) 2 0) 1
 
+pub record FirstRow (index keys used : List ℕ) (a b : ℕ) (r : ℕ) : Type 0 where
+  pub judged : Judged index keys used
+  pub number : r ≡ firstRow (judged .sound) (widthOf index) a b
+
+-- "A refusal returns its number": the answer behind a row, 0 where none applies.
+abbrev pub behind : ℕ → Answer → Answer
+behind row done = cond (eqb row 0) done (plain row)
+
+-- "and changes no lent byte"
+abbrev pub keptBehind : ℕ → List ℕ → List ℕ → List ℕ
+keptBehind row before after = cond (eqb row 0) after before
+
+-- Rows 1, 2 and 6.
 pub record FindDoes (index keys used : List ℕ) (key : ℕ) (r : Answer) : Type 0 where
   pub judged : Judged index keys used
-  pub answer : r ≡ findAnswer (judged .sound) (widthOf index) (herdOf keys used) key
+  pub answer : r ≡ behind (firstRow (judged .sound) (widthOf index) key key) (found (lookup key (herdOf keys used)))
 
 -- Rows 1 and 2, "either end of a list".
-abbrev pub listAnswer : Bool → ℕ → Herd → ℕ → ℕ → ℕ → Answer
-listAnswer sound w herd a b room = cond sound (cond (tooWide w a || tooWide w b) (plain 2) (listed (recordsBetween a b herd) room)) (plain 1)
-
-abbrev pub listOut : Bool → ℕ → Herd → ℕ → ℕ → List ℕ → List ℕ
-listOut sound w herd a b out = cond sound (cond (tooWide w a || tooWide w b) out (listSlice (recordsBetween a b herd) out)) out
-
 pub record ListDoes (index keys used : List ℕ) (a b : ℕ) (out out₁ : List ℕ) (r : Answer) : Type 0 where
   pub judged : Judged index keys used
-  pub answer : r ≡ listAnswer (judged .sound) (widthOf index) (herdOf keys used) a b (length out)
-  pub slice : out₁ ≡ listOut (judged .sound) (widthOf index) (herdOf keys used) a b out
+  pub answer : r ≡ behind (firstRow (judged .sound) (widthOf index) a b) (listed (recordsBetween a b (herdOf keys used)) (length out))
+  pub slice : out₁ ≡ keptBehind (firstRow (judged .sound) (widthOf index) a b) out (listSlice (recordsBetween a b (herdOf keys used)) out)

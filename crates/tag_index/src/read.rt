@@ -6,7 +6,7 @@ ghost use Prim.Native.Nat.{_≤_};
 ghost use lib.ListN.{length};
 ghost use Rattle.index_table.specs.Header.{widthOf};
 ghost use Rattle.index_table.specs.Soundness.{Sound};
-ghost use Rattle.tag_index.specs.Reading.{FindDoes, ListDoes};
+ghost use Rattle.tag_index.specs.Reading.{FirstRow, FindDoes, ListDoes};
 use table_calls::answer::Answer;
 
 // The width of the keys.
@@ -17,15 +17,30 @@ fn width(index: &[u8]) -> u64
     index[0] as u64
 }
 
+// Row 1 or 2, the first that applies to the tables and to two keys; 0 if neither does.
+pub fn first_row(index: &[u8], keys: &[u64], used: &[u8], a: u64, b: u64) -> u32
+    ensures { λ r. ⌜ FirstRow (now (index .entry)) (now (keys .entry)) (now (used .entry)) a b r ⌝ }
+{
+    if !table_check::check(index, keys, used) {
+        return 1;
+    }
+    let w = width(index);
+    if leaf_list::too_wide(w, a) {
+        return 2;
+    }
+    if leaf_list::too_wide(w, b) {
+        return 2;
+    }
+    0
+}
+
 // The record of a held key.
 pub fn find(index: &[u8], keys: &[u64], used: &[u8], key: u64) -> Answer
     ensures { λ r. ⌜ FindDoes (now (index .entry)) (now (keys .entry)) (now (used .entry)) key r ⌝ }
 {
-    if !table_check::check(index, keys, used) {
-        return Answer::plain(1);
-    }
-    if leaf_list::too_wide(width(index), key) {
-        return Answer::plain(2);
+    let row = first_row(index, keys, used, key, key);
+    if row != 0 {
+        return Answer::plain(row);
     }
     table_calls::find::find_held(index, keys, used, key)
 }
@@ -34,15 +49,9 @@ pub fn find(index: &[u8], keys: &[u64], used: &[u8], key: u64) -> Answer
 pub fn list(index: &[u8], keys: &[u64], used: &[u8], a: u64, b: u64, out: &mut [u32]) -> Answer
     ensures { λ r. ⌜ ListDoes (now (index .entry)) (now (keys .entry)) (now (used .entry)) a b (now (out .entry)) (now (out .exit)) r ⌝ }
 {
-    if !table_check::check(index, keys, used) {
-        return Answer::plain(1);
-    }
-    let w = width(index);
-    if leaf_list::too_wide(w, a) {
-        return Answer::plain(2);
-    }
-    if leaf_list::too_wide(w, b) {
-        return Answer::plain(2);
+    let row = first_row(index, keys, used, a, b);
+    if row != 0 {
+        return Answer::plain(row);
     }
     table_calls::list::list_held(index, keys, used, a, b, out)
 }
