@@ -13,12 +13,12 @@ const RECORDS: [usize; 4] = [100, 1_000, 4_096, 60_000];
 const KEYS: [&str; 2] = ["held key", "other key"];
 
 const METHOD: &str = "\
-Medians over rounds. A round times every measure once, close together, about 20 us of calls each (one call
-where it takes longer), and find and check take turns to be first. Check / memcmp is the median of the
-ratios within rounds, and a row that is less check that of the differences; brackets show where the true median
-lies 95 times in 100. Such a row is a small difference of large numbers: where the brackets are wide, it is not
-known better than that. Gets run many in a row, with caches and branch prediction to themselves; behind a check,
-a get finds them as a find does.";
+Medians over the quarter of the rounds that took least. A round times every measure once, close together, about
+20 us of calls each (one call where it takes longer), find and check in random order. Check / memcmp is the median
+of the ratios within rounds, and a row that is less check that of the differences; brackets show the interval of
+the median (95 in 100). Such a row is a small difference of large numbers: where the brackets are wide, it is not
+known better than that. Gets run many in a row, with caches and branch prediction to themselves; behind a check, a
+get finds them as a find does.";
 
 /// Prints a row: its name, and a cell for each herd.
 fn row(name: &str, herds: &[Measures], cell: impl Fn(&Measures) -> String) {
@@ -44,7 +44,7 @@ fn ratio(one: Median, other: Median) -> String {
 fn print_check(herds: &[Measures]) {
     row("records, all held", herds, |m| m.records.to_string());
     row("bytes of the three tables", herds, |m| m.bytes.to_string());
-    row("rounds", herds, |m| m.rounds.to_string());
+    row("rounds kept", herds, |m| m.rounds.to_string());
     row("memcmp of these bytes, us", herds, |m| micros(m.memcmp));
     row("check, us", herds, |m| micros(m.check));
     row("check / memcmp", herds, |m| {

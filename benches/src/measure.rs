@@ -16,7 +16,8 @@ const LOOKED_FOR: usize = 1 << 14;
 /// time, short beside the machine's disturbances.
 const TOGETHER_NS: f64 = 20_000.0;
 
-/// A median, and an interval that holds the true median 95 times in 100.
+/// A median, and an interval that holds the true median 95 times in 100 if the
+/// rounds do not depend on each other.
 #[derive(Clone, Copy)]
 pub struct Median {
     pub value: f64,
@@ -56,6 +57,8 @@ pub struct Measures {
 
 /// The times of one round.
 struct Round {
+    /// Of the whole round.
+    whole: Duration,
     memcmp: f64,
     check: f64,
     find: [f64; 2],
@@ -160,12 +163,14 @@ impl Bench {
         }
     }
 
-    /// One round. Check and what is compared with it take turns to be first.
+    /// One round. Check and what is compared with it come in random order.
     fn round(&self, round: usize) -> Round {
+        let start = Instant::now();
         let memcmp = time(0, self.compares, |_| self.compare());
+        let mut kinds = [0, 1, 2, 3, 4];
+        Random::new(round as u64).shuffle(&mut kinds);
         let mut times = [0.0; 5];
-        for turn in 0..5 {
-            let kind = (round + turn) % 5;
+        for kind in kinds {
             let first = round * self.calls;
             times[kind] = time(first, self.calls, |number| self.call(kind, number));
         }
@@ -177,18 +182,28 @@ impl Bench {
             find: [held, other],
             check_and_get: [get_held, get_other],
             get: [0, 1].map(gets),
+            whole: start.elapsed(),
         }
+    }
+
+    /// Rounds for so long, and of these the quarter that took least, when the
+    /// machine was quiet.
+    fn quiet_rounds(&self, how_long: Duration) -> Vec<Round> {
+        let start = Instant::now();
+        let mut rounds = Vec::new();
+        while start.elapsed() < how_long {
+            rounds.push(self.round(rounds.len()));
+        }
+        rounds.sort_unstable_by_key(|round| round.whole);
+        rounds.truncate(rounds.len().div_ceil(4));
+        rounds
     }
 }
 
 /// Measures a herd of so many records for so long.
 pub fn measure(records: usize, how_long: Duration) -> Measures {
     let bench = Bench::new(records);
-    let start = Instant::now();
-    let mut rounds = Vec::new();
-    while start.elapsed() < how_long {
-        rounds.push(bench.round(rounds.len()));
-    }
+    let rounds = bench.quiet_rounds(how_long);
     let of = |value: &dyn Fn(&Round) -> f64| median(rounds.iter().map(value).collect());
     let both = |value: fn(&Round, usize) -> f64| [0, 1].map(|which| of(&|r| value(r, which)));
     let Tables { index, keys, used } = &bench.tables;
