@@ -3,7 +3,7 @@ use mathlib.Core.Path.{_≡_, refl, sym, ap, subst, _∙_}
 use mathlib.Core.Logic.{_⊎_, inl, inr}
 use mathlib.Core.Bool.{Bool, true, false}
 use mathlib.Core.List.{List, [], _∷_}
-use Prim.Native.Nat.{ℕ, zero, suc, _+_, _*_, _^_, _≤_, _<_}
+use Prim.Native.Nat.{ℕ, zero, suc, _^_, _≤_, _<_}
 use native.Mathlib.Omega.{arith}
 use lib.Dec.{ltb}
 use lib.Pow.{pow-pos}
@@ -11,7 +11,6 @@ use lib.ListN.{length, getD}
 use borrow.Author.Tests.{ltb-true, ltb-false, eqb-true}
 use Rattle.leaf_list.specs.Entries.{depthOf, liveRecords}
 use Rattle.leaf_list.specs.Herd.{Narrow, Sorted, KeysOf, recordsOf}
-use Rattle.leaf_list.specs.LeafList.{leafList}
 use Rattle.leaf_list.specs.Register.{keyAt, inUse, herdOf}
 use Rattle.leaf_list.proofs.Check.{herdOf-narrow}
 use Rattle.leaf_list.proofs.FittingHerds.{AllInUse}
@@ -20,7 +19,7 @@ use Rattle.leaf_list.proofs.RegisterChange.{herdOf-sorted}
 use Rattle.leaf_list.proofs.RegisterHerd.{herdOf-is, herdOf-keysOf, length-herdFrom}
 use Rattle.page_tree.specs.Rows.{All}
 use Rattle.page_tree.specs.Tree.{Tree, depth, leavesOf, SoundTree, RootRule, pagesOf as treePages}
-use Rattle.index_table.specs.Layout.{layoutOf, pageSize, pageStart, Within}
+use Rattle.index_table.specs.Layout.{layoutOf, pageStart, Within}
 use Rattle.index_table.specs.Header.{widthOf, entriesOf, pagesOf, rootOf, heldOf}
 use Rattle.index_table.specs.Pages.{Pages, pagesAt, treeAt, usedPages}
 use Rattle.index_table.specs.Soundness.{SoundRecord, Sound, rootLevel, leafEntries}

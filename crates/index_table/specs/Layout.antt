@@ -1,6 +1,6 @@
 -- Where pages stand in the index table's bytes, what is read from one, and what is written (01, "Pages"). Assumes nothing.
 use mathlib.Core.List.{List, [], _∷_, _++_}
-use Prim.Native.Nat.{ℕ, zero, suc, _+_, _*_, _-_, _^_, _≤_, _<_}
+use Prim.Native.Nat.{ℕ, suc, _+_, _*_, _-_, _^_, _≤_, _<_}
 use lib.ListN.{length, getD, take, drop, replicate}
 use Rattle.page_tree.specs.Rows.{All}
 use Rattle.index_table.specs.Bytes.{number, bytesOf, over, table}

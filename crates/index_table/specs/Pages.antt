@@ -1,14 +1,14 @@
 -- The pages of a table by their numbers, and the tree that is read from one of them down. Assumes nothing.
 use mathlib.Core.Bool.{cond}
 use mathlib.Core.Option.{Option, none, some}
-use mathlib.Core.List.{List, [], _∷_, map}
+use mathlib.Core.List.{List, map}
 use Prim.Native.Nat.{ℕ, zero, suc, _+_, min}
 use lib.Dec.{eqb}
 use lib.ListN.{length}
-use Rattle.leaf_list.specs.Entries.{Entry, entry}
+use Rattle.leaf_list.specs.Entries.{entry}
 use Rattle.page_tree.specs.Rows.{sum}
 use Rattle.page_tree.specs.Tree.{Node, Tree}
-use Rattle.index_table.specs.Layout.{Layout, Ref, layoutOf, pageBytes, levelOf, refsOf, nilPointer}
+use Rattle.index_table.specs.Layout.{Layout, Ref, pageBytes, refsOf}
 
 -- The entries of each page.
 abbrev pub Pages : Type 0

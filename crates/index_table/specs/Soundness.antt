@@ -1,19 +1,18 @@
 -- Sound tables (01, "Pages": "Check says yes exactly if lengths, header, pages and register all agree so"). Assumes nothing.
 use mathlib.Core.Path.{_≡_}
 use mathlib.Core.Logic.{_⊎_}
-use mathlib.Core.Bool.{Bool, true}
-use mathlib.Core.List.{List, [], _∷_}
+use mathlib.Core.List.{List}
 use Prim.Native.Nat.{ℕ, zero, suc, _+_, _*_, _^_, _≤_, _<_}
 use lib.ListN.{length, getD, drop}
 use Rattle.leaf_list.specs.Entries.{Entry}
 use Rattle.leaf_list.specs.LeafList.{leafList}
 use Rattle.leaf_list.specs.Register.{herdOf, countInUse}
 use Rattle.page_tree.specs.Rows.{All, Closed}
-use Rattle.page_tree.specs.Tree.{leavesOf, RootRule}
+use Rattle.page_tree.specs.Tree.{leavesOf}
 use Rattle.index_table.specs.Bytes.{AllZero}
 use Rattle.index_table.specs.Layout.{Layout, layoutOf, pageSize, entrySize, pageBytes, levelOf, countOf, Ref, nilPointer}
 use Rattle.index_table.specs.Header.{widthOf, entriesOf, pagesOf, rootOf, heldOf, spareOf}
-use Rattle.index_table.specs.Pages.{Pages, pagesAt, met, inUse, rootRef, treeAt}
+use Rattle.index_table.specs.Pages.{pagesAt, met, inUse, rootRef, treeAt}
 
 -- "Named limits: 255 entries a page, 65,534 records, 15 as the highest root level. E is at least 2, P from 1 to 65,534,
 -- the register at least one record"; "W from 1 to 64". A byte is at most 255.

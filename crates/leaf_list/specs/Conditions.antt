@@ -3,7 +3,7 @@
 use mathlib.Core.Bool.{Bool, true, false, cond, not, _&&_, _||_}
 use mathlib.Core.Option.{Option, none, some}
 use mathlib.Core.List.{List, [], _∷_}
-use Prim.Native.Nat.{ℕ, zero, suc, max}
+use Prim.Native.Nat.{ℕ, suc, max}
 use lib.Dec.{leb, ltb, eqb}
 use Rattle.leaf_list.specs.Keys.{bitAt, setBitAt, firstBits}
 use Rattle.leaf_list.specs.Entries.{Entry, entry, isNil}

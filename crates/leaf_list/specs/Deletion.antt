@@ -1,6 +1,6 @@
 -- Deletion at the found entry (figure 11; 01, "Deletion"), over the whole list. Assumes nothing.
-use mathlib.Core.Bool.{Bool, true, false, cond}
-use mathlib.Core.Option.{Option, none, some}
+use mathlib.Core.Bool.{cond}
+use mathlib.Core.Option.{none, some}
 use mathlib.Core.List.{List, [], _∷_, reverseAux}
 use Prim.Native.Nat.{ℕ}
 use lib.Dec.{ltb}

@@ -1,8 +1,8 @@
 -- Insertion at the found entry (section 5.1; 01, "Insertion"). Assumes nothing.
 use mathlib.Core.Bool.{Bool, true, false, cond, _&&_}
-use mathlib.Core.Option.{Option, none, some}
+use mathlib.Core.Option.{none, some}
 use mathlib.Core.List.{List, [], _∷_, reverseAux}
-use Prim.Native.Nat.{ℕ, zero, suc}
+use Prim.Native.Nat.{ℕ}
 use lib.Dec.{ltb}
 use Rattle.leaf_list.specs.Keys.{Key, below, firstDifference}
 use Rattle.leaf_list.specs.Entries.{Entry, entry}

@@ -1,8 +1,8 @@
 -- Search over the leaf list (figure 6; 01, "Search"). Assumes nothing.
-use mathlib.Core.Bool.{Bool, true, false, cond, _||_}
+use mathlib.Core.Bool.{true, false, cond, _||_}
 use mathlib.Core.Option.{Option, none, some}
 use mathlib.Core.List.{List, [], _∷_}
-use Prim.Native.Nat.{ℕ, zero, suc}
+use Prim.Native.Nat.{ℕ, suc}
 use lib.Dec.{ltb, eqb}
 use Rattle.leaf_list.specs.Keys.{Key, sameKey, setBitAt}
 use Rattle.leaf_list.specs.Entries.{Entry, entry}

@@ -1,5 +1,5 @@
 -- The leaf list by the paper's conceptual tree: the computable twin of LeafList, with which it agrees (proofs/Literal). Assumes nothing.
-use mathlib.Core.Bool.{Bool, true, false}
+use mathlib.Core.Bool.{true, false}
 use mathlib.Core.Option.{Option, none, some}
 use mathlib.Core.List.{List, [], _∷_}
 use Prim.Native.Nat.{ℕ, zero, suc}

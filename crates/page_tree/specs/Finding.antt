@@ -1,6 +1,6 @@
 -- Figure 6 level by level (01, "A walk goes from the root down"): the positions left and the depth before are carried into the child. Assumes nothing.
-use mathlib.Core.Option.{Option, none}
-use mathlib.Core.List.{List, [], _∷_}
+use mathlib.Core.Option.{none}
+use mathlib.Core.List.{List, []}
 use Prim.Native.Nat.{ℕ, zero, suc}
 use Rattle.leaf_list.specs.Entries.{Entry, entry}
 use Rattle.page_tree.specs.Tree.{Node, depth, Tree}

@@ -1,6 +1,6 @@
 -- Deletion in pages (01, "Deletion is figure 11 over the whole list, across pages"). Assumes nothing.
 use mathlib.Core.Bool.{cond}
-use mathlib.Core.Option.{Option, none, some}
+use mathlib.Core.Option.{none, some}
 use mathlib.Core.List.{List, [], _∷_, _++_, foldr}
 use Prim.Native.Nat.{ℕ, zero, suc}
 use lib.Dec.{ltb}

@@ -3,20 +3,18 @@ use mathlib.Core.Path.{_≡_, refl, sym, ap, subst, _∙_}
 use mathlib.Core.Logic.{_≢_}
 use mathlib.Core.Bool.{Bool, true, false, cond}
 use mathlib.Core.Option.{Option, none, some}
-use mathlib.Core.List.{List, [], _∷_, _++_, reverseAux}
-use Prim.Native.Nat.{ℕ, zero, suc, _+_, _^_, _≤_, _<_}
+use mathlib.Core.List.{List, [], _∷_, reverseAux}
+use Prim.Native.Nat.{ℕ, _^_, _≤_, _<_}
 use native.Mathlib.Omega.{arith}
-use native.Mathlib.Nat.{mod-eq-of-lt}
 use lib.Dec.{eqb}
 use lib.ListN.{length, take, drop, take-append-drop}
 use borrow.Author.Tests.{eqb-true, eqb-false, eq-eqb, ne-eqb}
 use Rattle.leaf_list.specs.Keys.{bits, sameKey}
-use Rattle.leaf_list.specs.Entries.{Entry, entry, liveRecords, depthOf}
-use Rattle.leaf_list.specs.Herd.{Herd, lookup, recordsOf}
+use Rattle.leaf_list.specs.Entries.{Entry, entry, liveRecords}
+use Rattle.leaf_list.specs.Herd.{Herd, lookup}
 use Rattle.leaf_list.specs.LeafList.{leafList}
 use Rattle.leaf_list.specs.Register.{keyAt, inUse, herdOf}
-use Rattle.leaf_list.specs.Search.{positions, search, pointerAt, compared, find}
-use Rattle.leaf_list.specs.Insertion.{trailing}
+use Rattle.leaf_list.specs.Search.{positions, search, pointerAt, compared}
 use Rattle.leaf_list.proofs.Laws.{find-law, closed-law, liveRecords-law}
 use Rattle.leaf_list.proofs.Positions.{Beyond, positions-rise, positions-beyond}
 use Rattle.leaf_list.proofs.PassedEntries.{live-stack}
@@ -25,19 +23,19 @@ use Rattle.leaf_list.proofs.Bits.{sameKey-refl, sameKey-bits}
 use Rattle.leaf_list.proofs.RegisterHerd.{herdOf-is}
 use Rattle.leaf_list.proofs.Lists.{All}
 use Rattle.page_tree.specs.Rows.{Closed}
-use Rattle.page_tree.specs.Tree.{Tree, depth, leaves, leavesOf, SoundTree}
-use Rattle.page_tree.specs.Finding.{findBelow, findIn, findFlat}
-use Rattle.page_tree.proofs.FindingLaws.{findIn-leaves, findFlat-search, FoundAt}
+use Rattle.page_tree.specs.Tree.{Tree, depth, leaves}
+use Rattle.page_tree.specs.Finding.{findIn, findFlat}
+use Rattle.page_tree.proofs.FindingLaws.{findIn-leaves, findFlat-search}
 use Rattle.index_table.specs.Layout.{layoutOf, Within, pageBytes, levelOf}
 use Rattle.index_table.specs.Header.{widthOf, entriesOf, pagesOf, rootOf}
-use Rattle.index_table.specs.Pages.{pagesAt, nodeAt, recordOf, treeAt}
+use Rattle.index_table.specs.Pages.{pagesAt, recordOf, treeAt}
 use Rattle.index_table.specs.IndexNumbers.{IndexOf}
 use Rattle.index_table.specs.declared.header.Index.{Index}
 use Rattle.index_table.specs.Answers.{answerOf}
 use Rattle.index_table.specs.declared.layout.RecordNo.{RecordNo}
 use Rattle.index_table.specs.declared.layout.Answer.{Answer as LeafAnswer}
 use Rattle.index_table.specs.declared.layout.Answer.the-variants.{Live, Dummy}
-use Rattle.index_table.specs.Soundness.{Sound, rootLevel, leafEntries}
+use Rattle.index_table.specs.Soundness.{Sound, rootLevel}
 use Rattle.index_table.proofs.SoundNodes.{sound-tree, tree-depth}
 use Rattle.index_table.proofs.SoundTables.{keys-narrow, in-use-inside, herd-narrow, herd-sorted, herd-keys, table-long, root-within, leaf-depths}
 use Rattle.table_search.specs.declared.Leaf.{Leaf}

@@ -1,5 +1,5 @@
 -- What the calls answer (01, "When a call is declined"). Assumes nothing.
-use mathlib.Core.Bool.{Bool, true, false}
+use mathlib.Core.Bool.{Bool, false}
 use mathlib.Core.Option.{Option, none, some}
 use Prim.Native.Nat.{ℕ}
 use Rattle.table_calls.specs.declared.answer.Answer.{Answer}

@@ -1,5 +1,5 @@
 -- What a list call gives (01, "List writes record numbers for keys from a to b inclusive, in key order"). Assumes nothing.
-use mathlib.Core.Bool.{Bool, cond, _&&_}
+use mathlib.Core.Bool.{cond, _&&_}
 use mathlib.Core.List.{List, [], _∷_, _++_}
 use Prim.Native.Nat.{ℕ, min}
 use lib.Dec.{leb, ltb}

@@ -2,21 +2,21 @@
 use mathlib.Core.Path.{_≡_, refl, sym, ap, subst, _∙_}
 use mathlib.Core.Logic.{_⊎_, inl, inr}
 use mathlib.Core.List.{List, [], _∷_, _++_, map, map-append}
-use Prim.Native.Nat.{ℕ, zero, suc, _+_, _-_, _^_, _≤_, _<_}
+use Prim.Native.Nat.{ℕ, zero, suc, _-_, _≤_, _<_}
 use native.Mathlib.Omega.{arith}
-use lib.ListN.{length, getD, take, drop, length-append, length-drop}
+use lib.ListN.{length, getD, take, drop}
 use lib.Seq.{split-at}
 use Rattle.leaf_list.specs.Entries.{Entry, entry, depthOf as entryDepth}
 use Rattle.page_tree.specs.Rows.{All, Closed, flats, lastDepth}
 use Rattle.page_tree.specs.Tree.{Node, depth, leaves}
-use Rattle.page_tree.specs.Walk.{rest, walk}
+use Rattle.page_tree.specs.Walk.{walk}
 use Rattle.page_tree.specs.Finding.{findBelow, nowhere}
 use Rattle.leaf_list.proofs.Lists.{all-at}
 use Rattle.page_tree.proofs.RowMaps.{lastDepth-map, positionsAfter-map, passes-map}
 use Rattle.page_tree.proofs.ListLaws.{all-left, all-right}
-use Rattle.page_tree.proofs.WalkPlaces.{Passes, positionsAfter, Stops, find-at}
-use Rattle.index_table.specs.Layout.{Layout, Ref, Within, layoutOf, pageStart, pageBytes, refAt}
-use Rattle.index_table.specs.Pages.{Pages, pagesAt, nodeAt, recordOf}
+use Rattle.page_tree.proofs.WalkPlaces.{positionsAfter, Stops, find-at}
+use Rattle.index_table.specs.Layout.{Ref, Within, layoutOf, pageBytes, refAt}
+use Rattle.index_table.specs.Pages.{pagesAt, nodeAt, recordOf}
 use Rattle.index_table.specs.Soundness.{SoundBelow}
 use Rattle.index_table.proofs.PageBytes.{within-table}
 use Rattle.index_table.proofs.SoundNodes.{sound-depths}

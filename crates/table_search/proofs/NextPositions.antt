@@ -1,20 +1,20 @@
 -- The next position of a key, by the zeros above the bits that are left of it. Assumes nothing.
 use mathlib.Core.Path.{_≡_, refl, sym, ap, subst, _∙_}
 use mathlib.Core.Logic.{_⊎_, inl, inr}
-use mathlib.Core.Bool.{Bool, true, false}
+use mathlib.Core.Bool.{Bool}
 use mathlib.Core.List.{List, [], _∷_}
 use Prim.Native.Nat.{ℕ, zero, suc, _+_, _-_, _*_, _/_, _%_, _^_, _≤_, _<_}
 use native.Mathlib.Omega.{arith}
 use native.Mathlib.Numerals.{one-add}
 use native.Mathlib.Nat.{suc-mul, zero-mul, mod-lt, eq-or-lt-of-le, le-of-suc-le-suc, lt-of-lt-of-le, lt-of-not-le, not-le-of-lt}
-use lib.Dec.{eqb, leb}
+use lib.Dec.{eqb}
 use lib.Count.{leadingZeros, leading-top}
 use lib.Pow.{pow-pos, pow-mono, mod-pow-add}
 use lib.ListN.{drop}
 use borrow.Author.Tests.{le-leb, lt-leb}
 use Rattle.leaf_list.specs.Keys.{bits}
 use Rattle.leaf_list.specs.Search.{positions}
-use Rattle.table_search.specs.Places.{leftFrom, NextPosition}
+use Rattle.table_search.specs.Places.{NextPosition}
 
 -- The bits behind the first p are the last of the number.
 pub drop-bits : (p w x : ℕ) → p ≤ w → drop p (bits w x) ≡ bits (w - p) x

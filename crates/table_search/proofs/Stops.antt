@@ -1,25 +1,21 @@
 -- The search of one page's row, entry by entry. Assumes nothing.
 use mathlib.Core.Path.{_≡_, refl, sym, ap, subst, _∙_}
-use mathlib.Core.Logic.{_⊎_, inl, inr}
-use mathlib.Core.Bool.{Bool, true, false, cond}
+use mathlib.Core.Logic.{inl, inr}
 use mathlib.Core.List.{List, [], _∷_, _++_}
-use Prim.Native.Nat.{ℕ, zero, suc, _+_, _^_, _≤_, _<_}
+use Prim.Native.Nat.{ℕ, _+_, _≤_, _<_}
 use native.Mathlib.Omega.{arith}
 use native.Mathlib.Numerals.{add-one}
-use lib.Dec.{leb, eqb}
-use lib.ListN.{length, getD, take, drop}
+use lib.ListN.{length, getD, take}
 use lib.Seq.{take-suc}
-use borrow.Author.Tests.{le-leb, lt-leb, leb-true, leb-false, ne-eqb, eq-eqb}
-use Rattle.leaf_list.specs.Keys.{bits}
+use borrow.Author.Tests.{le-leb, ne-eqb, eq-eqb}
 use Rattle.leaf_list.proofs.Lists.{all-at}
 use Rattle.leaf_list.specs.Search.{positions}
-use Rattle.page_tree.specs.Rows.{All, lastDepth}
+use Rattle.page_tree.specs.Rows.{lastDepth}
 use Rattle.page_tree.specs.Walk.{rest}
 use Rattle.page_tree.proofs.WalkPlaces.{Passes, positionsAfter}
 use Rattle.index_table.specs.Layout.{Ref, Layout, layoutOf, refAt, pageBytes}
 use Rattle.index_table.specs.Pages.{pagesAt}
 use Rattle.index_table.proofs.PageRows.{length-refs, getD-refs}
-use Rattle.table_search.specs.declared.Spot.{Spot}
 use Rattle.table_search.specs.Places.{later, leftFrom, NextPosition, Passed, depthOf, SeekPre, Stopped}
 
 -- One entry more is passed.

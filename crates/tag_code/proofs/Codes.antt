@@ -2,7 +2,7 @@
 use mathlib.Core.Path.{_≡_, refl, sym, ap, subst, _∙_}
 use mathlib.Core.Logic.{_↔_}
 use mathlib.Core.Bool.{Bool, true, false}
-use Prim.Native.Nat.{ℕ, _+_, _*_, _/_, _%_, _^_, _<_, _≤_}
+use Prim.Native.Nat.{ℕ, _+_, _*_, _^_, _<_, _≤_}
 use native.Mathlib.Omega.{arith}
 use native.Mathlib.Nat.{mod-eq-of-lt}
 use lib.Pow.{mod-pow-add}
@@ -12,7 +12,7 @@ use Rattle.tag_code.specs.declared.TagFields.{TagFields}
 use Rattle.tag_code.specs.declared.Packed.{Packed}
 use Rattle.tag_code.specs.declared.Unpacked.{Unpacked}
 use Rattle.tag_code.specs.TagCode.{bitsOf, fieldsFit, codeOf, fieldsOf, noFields, packed, unpacked}
-use Rattle.tag_code.proofs.Fields.{Fit, fit-law, unfit}
+use Rattle.tag_code.proofs.Fields.{Fit, fit-law}
 
 -- The answers, by what was asked.
 pub packed-done : (f : TagFields) → Fit f → packed f ≡ record { number = 0; code = codeOf f }

@@ -1,5 +1,5 @@
 -- The tag code (01, "Tag code"). Assumes nothing.
-use mathlib.Core.Bool.{Bool, true, false, cond, _&&_}
+use mathlib.Core.Bool.{Bool, cond, _&&_}
 use Prim.Native.Nat.{ℕ, suc, _+_, _*_, _-_, _/_, _%_, _^_}
 use lib.Dec.{ltb, leb}
 use Rattle.tag_code.specs.declared.TagFields.{TagFields}

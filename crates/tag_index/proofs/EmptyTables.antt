@@ -1,5 +1,5 @@
 -- The tables that format makes. Assumes nothing.
-use mathlib.Core.Path.{_≡_, refl, sym, ap, ap₂, _∙_}
+use mathlib.Core.Path.{_≡_, refl, sym, ap, _∙_}
 use mathlib.Core.List.{List, [], _∷_, _++_, append-assoc, append-nil}
 use Prim.Native.Nat.{ℕ, zero, suc, _+_, _*_, _-_, _≤_, _<_}
 use native.Mathlib.Omega.{arith}
@@ -8,10 +8,10 @@ use native.Mathlib.Numerals.{add-one}
 use lib.ListN.{length, take, drop, set, replicate, length-append, length-replicate, replicate-append-replicate, drop-of-length-le}
 use lib.Seq.{sets-eq, take-suc-set, take-all}
 use Rattle.index_table.specs.Bytes.{bytesOf, over}
-use Rattle.index_table.specs.Layout.{layoutOf, pageSize, pageStart, rowPage, pageOf, rowBytes, refBytes}
+use Rattle.index_table.specs.Layout.{layoutOf, pageSize, rowPage, pageOf, rowBytes, refBytes}
 use Rattle.index_table.specs.Header.{headerBytes}
 use Rattle.index_table.proofs.HeaderLaws.{length-header}
-use Rattle.index_table.proofs.ListLaws.{over-append, over-one, length-over}
+use Rattle.index_table.proofs.ListLaws.{over-append, over-one}
 use Rattle.tag_index.specs.Format.{emptyTable, EmptyPre}
 
 -- A list written over a whole one of its length.
@@ -30,7 +30,7 @@ drop-replicate (suc n) (suc k) h =
     drop-replicate n k (omega arith) ∙ ap (λ (m : ℕ). replicate m 0) e
 
 -- A list written over zeros stands before the rest of them.
-over-zeros : (n : ℕ) (vs : List ℕ) → length vs ≤ n → over (replicate n 0) 0 vs ≡ vs ++ replicate (n - length vs) 0
+pub over-zeros : (n : ℕ) (vs : List ℕ) → length vs ≤ n → over (replicate n 0) 0 vs ≡ vs ++ replicate (n - length vs) 0
 unfolding over
 over-zeros n vs h =
     let e : 0 + length vs ≡ length vs = omega arith in

@@ -1,3 +1,4 @@
 pub mod FormatLimits
+pub mod EmptySound
 pub mod EmptyTables
 pub mod Judging

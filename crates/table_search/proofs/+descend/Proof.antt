@@ -1,6 +1,6 @@
 -- Level by level: the page is searched, and on level 0 the entry is the answer. Assumes nothing.
 use borrow.Author.Needs.{needs}
-use mathlib.Core.Path.{_≡_, sym, subst, _∙_}
+use mathlib.Core.Path.{_∙_}
 use native.Mathlib.Omega.{arith}
 use Rattle.table_search.proofs.Descents.{descend-within, descend-seek, descend-inside, descend-leaf, descend-down, descend-up}
 use Prim.Native.Nat.{ℕ, _<_}

@@ -1,6 +1,5 @@
 -- Where the depth is the position, the next one follows. Assumes nothing.
 use borrow.Author.Needs.{needs}
-use mathlib.Core.Path.{sym}
 use native.Mathlib.Omega.{arith}
 use Rattle.table_search.proofs.Stops.{passed-kept, passed-next}
 use Rattle.table_search.proofs.passed_position.Statement.{statement}

@@ -1,6 +1,5 @@
 -- From the root, with the key's first position and no depth before. Assumes nothing.
 use borrow.Author.Needs.{needs}
-use mathlib.Core.Path.{_≡_, sym, _∙_}
 use native.Mathlib.Omega.{arith}
 use Rattle.index_table.proofs.SoundTables.{header-long}
 use Rattle.table_calls.proofs.FoundLeaves.{root-page, width-high, key-narrow, descend-start, descend-end}

@@ -1,9 +1,9 @@
 -- Row 9, or every byte and key of the empty tables. Assumes nothing.
 use borrow.Author.Needs.{needs}
 use borrow.Author.Tests.{not-true, not-false}
-use mathlib.Core.Path.{_≡_, sym, ap, _∙_}
+use mathlib.Core.Path.{sym, _∙_}
 use native.Mathlib.Omega.{arith}
-use lib.ListN.{length, replicate, length-replicate}
+use lib.ListN.{length-replicate}
 use Rattle.tag_index.proofs.FormatLimits.{fits-says, format-refused, format-done, format-empty}
 use Rattle.tag_index.proofs.EmptyTables.{over-whole}
 use Rattle.tag_index.proofs.format.format.Statement.{statement}

@@ -1,8 +1,8 @@
 -- Each test is one limit or one length. Assumes nothing.
 use borrow.Author.Needs.{needs}
-use mathlib.Core.Path.{_≡_, sym, ap, _∙_}
+use mathlib.Core.Path.{sym, _∙_}
 use native.Mathlib.Omega.{arith}
-use Rattle.tag_index.proofs.FormatLimits.{FormatFit, fits-not, fits-met}
+use Rattle.tag_index.proofs.FormatLimits.{fits-not, fits-met}
 use Rattle.tag_index.proofs.format.format_fits.Statement.{statement}
 use Rattle.tag_index.proofs.format.format_fits.Tie as tie
 

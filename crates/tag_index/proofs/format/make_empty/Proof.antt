@@ -1,9 +1,8 @@
 -- Zeros everywhere, then the header, then the entry of the empty herd. Assumes nothing.
 use borrow.Author.Needs.{needs}
-use mathlib.Core.Path.{_≡_, sym, ap, _∙_}
+use mathlib.Core.Path.{_∙_}
 use native.Mathlib.Omega.{arith}
-use lib.ListN.{length, length-set}
-use Rattle.index_table.proofs.ListLaws.{length-over}
+use lib.ListN.{length-set}
 use Rattle.tag_index.proofs.EmptyTables.{made}
 use Rattle.tag_index.proofs.format.make_empty.Statement.{statement}
 use Rattle.tag_index.proofs.format.make_empty.Tie as tie
