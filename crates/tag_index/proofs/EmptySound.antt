@@ -16,7 +16,7 @@ use Rattle.leaf_list.proofs.Literal.{twin}
 use Rattle.page_tree.specs.Tree.{leavesOf, leaves as leaves-of}
 use Rattle.index_table.specs.Bytes.{over, AllZero}
 use Rattle.index_table.specs.Layout.{Layout, Ref, layoutOf, pageSize, pageStart, pageBytes, levelOf, refsOf, Within, Fitting, rowPage, store}
-use Rattle.index_table.specs.Header.{rootOf, heldOf, headerBytes}
+use Rattle.index_table.specs.Header.{widthOf, rootOf, heldOf, headerBytes}
 use Rattle.index_table.specs.Pages.{pagesAt, nodeAt, met, metAll, same, inUse, treeAt}
 use Rattle.index_table.specs.Soundness.{Limits, SoundRegister, Cleared, SoundPages, Sound}
 use Rattle.index_table.proofs.HeaderLaws.{HeaderFrom, HeaderIs, length-header, header-written, store-header, page-behind}
@@ -209,6 +209,12 @@ module _ (w e p n : ℕ) (limits : Limits w e p n) where
 
   -- ---- the whole
 
+  pub length-empty : length (emptyTable w e p) ≡ pageStart (layoutOf e) p
+  length-empty = ap length empty-stored ∙ length-store (layoutOf e) headed 0 (rowPage e 0 row) ∙ long
+
+  pub empty-width : widthOf (emptyTable w e p) ≡ w
+  empty-width = ap widthOf empty-stored ∙ kept .width ∙ read .width
+
   pub empty-sound : Sound (emptyTable w e p) (replicate n 0) (replicate n 0)
   empty-sound =
       subst (λ (t : List ℕ). Sound t (replicate n 0) (replicate n 0)) (sym empty-stored)
@@ -242,6 +248,17 @@ module _ {w e p : ℕ} {index₀ keys₀ used₀ index₁ keys₁ used₁ : List
   -- It leaves sound tables,
   pub format-sound : Sound index₁ keys₁ used₁
   format-sound = rw (tables .0, tables .1, tables .2) (empty-sound w e p (length used₀) (fit-in .limits))
+
+  -- of their lengths and of the width given,
+  pub format-lengths : (length index₁ ≡ length index₀) × (length keys₁ ≡ length keys₀) × (length used₁ ≡ length used₀)
+  format-lengths = (
+    ap length (tables .0) ∙ length-empty w e p (length used₀) (fit-in .limits) ∙ sym (fit-in .long),
+    ap length (tables .1) ∙ length-replicate {A = ℕ} (length used₀) 0 ∙ sym (fit-in .register),
+    ap length (tables .2) ∙ length-replicate {A = ℕ} (length used₀) 0,
+  )
+
+  pub format-width : widthOf index₁ ≡ w
+  format-width = ap widthOf (tables .0) ∙ empty-width w e p (length used₀) (fit-in .limits)
 
   -- and no key is held.
   pub format-empties : herdOf keys₁ used₁ ≡ []

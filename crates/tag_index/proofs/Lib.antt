@@ -1,4 +1,6 @@
-pub mod FormatLimits
 pub mod EmptySound
 pub mod EmptyTables
+pub mod FormatLimits
+pub mod Histories
 pub mod Judging
+pub mod Runs

@@ -1,0 +1,75 @@
+-- Runs of the calls, each step by the contract of the function that runs. Assumes nothing.
+use mathlib.Core.Path.{_≡_, sym}
+use mathlib.Core.Logic.{_↔_}
+use mathlib.Core.Bool.{Bool, true}
+use mathlib.Core.List.{List, [], _∷_}
+use Prim.Native.Nat.{ℕ}
+use contract.Lifetimes.{Lfts}
+use denote.Ref.{RefT}
+use Rattle.index_table.specs.Soundness.{Sound}
+use Rattle.table_calls.specs.declared.answer.Answer.{Answer}
+use Rattle.tag_index.specs.Format.{FormatDoes}
+use Rattle.tag_index.specs.Reading.{FindDoes, ListDoes}
+use Rattle.tag_index.specs.Histories.{Tables, Call, format, find, list, check, Reply, answered, sliced, said}
+use Rattle.tag_index.proofs.format.format.Reads as format-reads
+use Rattle.tag_index.proofs.read.find.Reads as find-reads
+use Rattle.tag_index.proofs.read.list.Reads as list-reads
+use Rattle.tag_index.proofs.read.check.Reads as check-reads
+
+-- Three slices that are lent, and hold the tables.
+pub record Lent (t : Tables) : Type 0 where
+  pub index : RefT (List ℕ)
+  pub keys : RefT (List ℕ)
+  pub used : RefT (List ℕ)
+  pub index-is : index .now ≡ t .index
+  pub keys-is : keys .now ≡ t .keys
+  pub used-is : used .now ≡ t .used
+
+-- What the contract of each call says of tables that it was run on.
+pub record Formats (w e p : ℕ) (t u : Tables) (r : Answer) : Type 0 where
+  pub κs : Lfts 3
+  pub before : Lent t
+  pub after : Lent u
+  pub post : format-reads.Post κs (before .index, (before .keys, (before .used, (w, (e, (p, tt)))))) r (after .index, (after .keys, (after .used, (w, (e, (p, tt))))))
+
+pub record Finds (key : ℕ) (t : Tables) (r : Answer) : Type 0 where
+  pub κs : Lfts 3
+  pub lent : Lent t
+  pub post : find-reads.Post κs (lent .index, (lent .keys, (lent .used, (key, tt)))) r (lent .index, (lent .keys, (lent .used, (key, tt))))
+
+pub record Lists (a b : ℕ) (out out₁ : List ℕ) (t : Tables) (r : Answer) : Type 0 where
+  pub κs : Lfts 4
+  pub lent : Lent t
+  pub slice : RefT (List ℕ)
+  pub slice-is : slice .now ≡ out
+  pub slice₁ : RefT (List ℕ)
+  pub slice₁-is : slice₁ .now ≡ out₁
+  pub post : list-reads.Post κs (lent .index, (lent .keys, (lent .used, (a, (b, (slice, tt)))))) r (lent .index, (lent .keys, (lent .used, (a, (b, (slice₁, tt))))))
+
+pub record Checks (t : Tables) (r : Bool) : Type 0 where
+  pub κs : Lfts 3
+  pub lent : Lent t
+  pub post : check-reads.Post κs (lent .index, (lent .keys, (lent .used, tt))) r (lent .index, (lent .keys, (lent .used, tt)))
+
+-- A run of calls from tables to tables, each call on the tables as the last one left them.
+pub data Run : Tables → List Call → List Reply → Tables → Type 0 where
+  end : {t : Tables} → Run t [] [] t
+  formats : {w e p : ℕ} {t u v : Tables} {r : Answer} {cs : List Call} {rs : List Reply} → Formats w e p t u r → Run u cs rs v → Run t (format w e p ∷ cs) (answered r ∷ rs) v
+  finds : {key : ℕ} {t v : Tables} {r : Answer} {cs : List Call} {rs : List Reply} → Finds key t r → Run t cs rs v → Run t (find key ∷ cs) (answered r ∷ rs) v
+  lists : {a b : ℕ} {out out₁ : List ℕ} {t v : Tables} {r : Answer} {cs : List Call} {rs : List Reply} → Lists a b out out₁ t r → Run t cs rs v → Run t (list a b out ∷ cs) (sliced r out₁ ∷ rs) v
+  checks : {t v : Tables} {r : Bool} {cs : List Call} {rs : List Reply} → Checks t r → Run t cs rs v → Run t (check ∷ cs) (said r ∷ rs) v
+
+-- The contracts in words of the tables.
+module _ {t : Tables} where
+  pub formats-does : {w e p : ℕ} {u : Tables} {r : Answer} → Formats w e p t u r → FormatDoes w e p (t .index) (t .keys) (t .used) (u .index) (u .keys) (u .used) r
+  formats-does s =
+      rw (sym (s .before .index-is), sym (s .before .keys-is), sym (s .before .used-is), sym (s .after .index-is), sym (s .after .keys-is), sym (s .after .used-is)) (s .post)
+
+  pub finds-does : {key : ℕ} {r : Answer} → Finds key t r → FindDoes (t .index) (t .keys) (t .used) key r
+  finds-does s = rw (sym (s .lent .index-is), sym (s .lent .keys-is), sym (s .lent .used-is)) (s .post)
+
+  pub lists-does : {a b : ℕ} {out out₁ : List ℕ} {r : Answer} → Lists a b out out₁ t r → ListDoes (t .index) (t .keys) (t .used) a b out out₁ r
+  lists-does s = rw (sym (s .lent .index-is), sym (s .lent .keys-is), sym (s .lent .used-is), sym (s .slice-is), sym (s .slice₁-is)) (s .post)
+
+  pub checks-does : {r : Bool} → Checks t r → (r ≡ true) ↔ Sound (t .index) (t .keys) (t .used)
+  checks-does s = rw (sym (s .lent .index-is), sym (s .lent .keys-is), sym (s .lent .used-is)) (s .post)
