@@ -228,3 +228,16 @@ leaf-sound {h} {index} {keys} {used} {s} {r} x w held d p a b e f z =
 pub leaf-marks : (pages : Pages) (x : Ref) (q : ℕ) → getD [] q 0 ≡ getD [] q 0 + met 0 pages x q
 unfolding met
 leaf-marks pages x q = omega arith
+
+-- The last entry of a page of level 0 has its depth in place: the page is in order exactly if the entry is.
+pub leaf-last : {h : Index} {index keys used : List ℕ} {page c count : ℕ} {s₀ s : Scan} {i : ℕ} → RowTurn h index keys used page c 0 count [] s₀ [] s i → i + 1 ≡ count
+    → (d : ℕ) → d ≡ entryAt h index page i .0 → d ≡ c → {r : Checked}
+    → Scanned (EntrySound h index 0 (entryAt h index page i) []) (h .width) keys used (h .held) s (leavesBelow 0 (rowsOf h index) (entryAt h index page i)) r
+    → Scanned (RowSound h index c 0 (rowsOf h index page) []) (h .width) keys used (h .held) s₀ (leavesOfRow 0 (rowsOf h index) (rowsOf h index page)) r
+leaf-last {h} {index} {keys} {used} {page} {c} {count} {s₀} {s} {i} t l d e z {r} a = go (r .ok) refl
+  where
+    go : (b : Bool) → r .ok ≡ b → Scanned (RowSound h index c 0 (rowsOf h index page) []) (h .width) keys used (h .held) s₀ (leavesOfRow 0 (rowsOf h index) (rowsOf h index page)) r
+    go false o = row-entry t (omega arith) a o
+    go true o =
+        subst (λ (b : Bool). Scanned (RowSound h index c 0 (rowsOf h index page) []) (h .width) keys used (h .held) s₀ (leavesOfRow 0 (rowsOf h index) (rowsOf h index page)) (record { ok = b; scan = r .scan })) (sym o)
+        (row-all (row-more t (omega arith) a o d e (rw (eq-eqb (i + 1) count l, eq-eqb d c z)) [] (leaf-marks _ _)) (omega arith))

@@ -37,11 +37,15 @@ pub fn scan_leaves(
     let w = wide(h.width);
     let held = wide16(h.held);
     let n = index_table::layout::wide(index_table::layout::count(index, h.entries, page));
+    if n == 0 {
+        return Checked { ok: true, scan: s };
+    }
+    let last = n - 1;
     let mut scan = s;
     let mut i: usize = 0;
-    while i < n {
+    while i < last {
         let d = index_table::layout::depth(index, h.entries, page, i);
-        if !closes(c, d, i + 1 == n) {
+        if d <= c {
             return Checked { ok: false, scan };
         }
         let p = index_table::layout::pointer(index, h.entries, page, i);
@@ -52,5 +56,10 @@ pub fn scan_leaves(
         scan = next.scan;
         i += 1;
     }
-    Checked { ok: true, scan }
+    let d = index_table::layout::depth(index, h.entries, page, i);
+    if d != c {
+        return Checked { ok: false, scan };
+    }
+    let p = index_table::layout::pointer(index, h.entries, page, i);
+    crate::entries::scan_entry(w, keys, used, held, scan, wide(d), p)
 }
