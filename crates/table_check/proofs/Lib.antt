@@ -2,6 +2,7 @@ pub mod Iff
 pub mod Gathered
 pub mod EntryTests
 pub mod RowTurns
+pub mod UncountedTurns
 pub mod MetPages
 pub mod ZeroBytes
 pub mod Headers

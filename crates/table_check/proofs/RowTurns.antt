@@ -21,7 +21,7 @@ use Rattle.index_table.proofs.PageRows.{length-refs}
 use Rattle.table_check.specs.Walks.{stateOf, Carried, Passing, Scanned, rowsOf, leavesBelow, leavesOfRow, Ends, RowSound, EntrySound}
 use Rattle.table_check.specs.declared.entries.Scan.{Scan}
 use Rattle.table_check.specs.declared.entries.Checked.{Checked}
-use Rattle.table_check.proofs.EntryTests.{scanned-no, scanned-yes}
+use Rattle.table_check.proofs.EntryTests.{scanned-no, scanned-yes, entry-closed}
 
 -- ---- some entries before others
 
@@ -134,7 +134,7 @@ module _ {h : Index} {index keys used : List ℕ} {c n : ℕ} where
 abbrev pub entryAt : Index → List ℕ → ℕ → ℕ → Ref
 entryAt h index page i = refAt (layoutOf (h .entries)) (pageBytes (layoutOf (h .entries)) index page) i
 
-abbrev entriesFrom : Index → List ℕ → ℕ → ℕ → ℕ → List Ref
+abbrev pub entriesFrom : Index → List ℕ → ℕ → ℕ → ℕ → List Ref
 entriesFrom h index page count i = table (entryAt h index page) i (count - i)
 
 -- An entry of a page is among those that a page may hold.
@@ -228,6 +228,12 @@ leaf-sound {h} {index} {keys} {used} {s} {r} x w held d p a b e f z =
 pub leaf-marks : (pages : Pages) (x : Ref) (q : ℕ) → getD [] q 0 ≡ getD [] q 0 + met 0 pages x q
 unfolding met
 leaf-marks pages x q = omega arith
+
+-- No entry follows the closing one.
+pub leaf-closed : {h : Index} {index keys used : List ℕ} {page c count : ℕ} {s₀ s : Scan} {i : ℕ} → RowTurn h index keys used page c 0 count [] s₀ [] s i → i < count → s .closed ≡ true
+    → Scanned (RowSound h index c 0 (rowsOf h index page) []) (h .width) keys used (h .held) s₀ (leavesOfRow 0 (rowsOf h index) (rowsOf h index page)) (record { ok = false; scan = s })
+leaf-closed {h} {index} {keys} {used} {page} {s} {i} t l z =
+    let x = entryAt h index page i in row-entry t l (leaf-sound x _ _ _ _ refl refl refl refl (entry-closed (h .width) keys used (h .held) s (x .0) (x .1) z)) refl
 
 -- The last entry of a page of level 0 has its depth in place: the page is in order exactly if the entry is.
 pub leaf-last : {h : Index} {index keys used : List ℕ} {page c count : ℕ} {s₀ s : Scan} {i : ℕ} → RowTurn h index keys used page c 0 count [] s₀ [] s i → i + 1 ≡ count

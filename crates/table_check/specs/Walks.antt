@@ -32,6 +32,10 @@ pub record Carried (w held : ℕ) (s : Scan) : Type 0 where
   pub trail : s .trail ≤ w
   pub live : s .live ≤ held
 
+-- More than are ever live: at most 65,535 records are held, and a page adds at most 255 entries before they are counted.
+abbrev pub countless : ℕ
+countless = 65791
+
 -- Entries pass behind a state: each fits, and no more are live than records are held.
 pub record Passing (w : ℕ) (keys used : List ℕ) (held : ℕ) (s : State) (es : List Entry) : Type 0 where
   pub fits : run w (keyAt keys) (inUse used) s es .fits ≡ true

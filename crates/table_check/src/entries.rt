@@ -1,6 +1,6 @@
 // The entries on level 0, one after the other from left to right.
 ghost use mathlib.Core.Path.{_≡_};
-ghost use mathlib.Core.Bool.{cond, not, _&&_};
+ghost use mathlib.Core.Bool.{cond, not, false, _&&_};
 ghost use mathlib.Core.List.{[], _∷_};
 ghost use Prim.Native.Nat.{suc, _≤_, _<_, _^_};
 ghost use lib.Dec.{eqb, leb};
@@ -8,7 +8,7 @@ ghost use Rattle.leaf_list.specs.Entries.{entry};
 ghost use Rattle.leaf_list.specs.Register.{keyAt, inUse};
 ghost use Rattle.leaf_list.specs.Conditions.{pointerFits, entryFits};
 ghost use Rattle.index_table.specs.Pages.{recordOf};
-ghost use Rattle.table_check.specs.Walks.{NarrowRegister, Carried, Scanned};
+ghost use Rattle.table_check.specs.Walks.{countless, NarrowRegister, Carried, Scanned};
 
 // What the check carries from entry to entry, and from page to page: the discriminator and the depth of the last entry, whether it was
 // a dummy, how many were live, and whether the last one closed the list.
@@ -80,7 +80,7 @@ fn too_many(held: u64, live: u64, p: u32) -> bool
 
 // How many entries are live behind this one.
 fn live_behind(live: u64, p: u32) -> u64
-    requires { ⌜ live < 65536 ⌝ }
+    requires { ⌜ live < countless ⌝ }
     ensures { λ r. ⌜ r ≡ cond (eqb p 65535) live (suc live) ⌝ }
 {
     if p == 65535 {
@@ -117,6 +117,29 @@ pub fn scan_entry(w: u64, keys: &[u64], used: &[u8], held: u64, s: Scan, d: u64,
             },
         };
     }
+    let disc = leaf_list::next_discriminator(w, s.disc, d);
+    Checked {
+        ok: true,
+        scan: Scan {
+            disc,
+            trail: d,
+            dummy,
+            live,
+            closed: false,
+        },
+    }
+}
+
+// One entry that does not close the list, behind what is carried; how many are live is left to the caller.
+pub fn scan_inner(w: u64, keys: &[u64], used: &[u8], s: Scan, d: u64, p: u32) -> Checked
+    requires { ⌜ (w ≤ 64) × (0 < d) × (s .closed ≡ false) × (s .live < countless) × Carried w countless s × NarrowRegister w (now keys) (now used) ⌝ }
+    ensures { λ r. ⌜ Scanned (Unit {0}) w (now (keys .entry)) (now (used .entry)) countless s (entry d (recordOf 65535 p) ∷ []) r × (r .scan .closed ≡ false) × (r .scan .live ≤ suc (s .live)) ⌝ }
+{
+    if !entry_fits(w, keys, used, s, d, p) {
+        return Checked { ok: false, scan: s };
+    }
+    let live = live_behind(s.live, p);
+    let dummy = p == 65535;
     let disc = leaf_list::next_discriminator(w, s.disc, d);
     Checked {
         ok: true,

@@ -40,6 +40,9 @@ pub fn scan_leaves(
     if n == 0 {
         return Checked { ok: true, scan: s };
     }
+    if s.closed {
+        return Checked { ok: false, scan: s };
+    }
     let last = n - 1;
     let mut scan = s;
     let mut i: usize = 0;
@@ -49,12 +52,15 @@ pub fn scan_leaves(
             return Checked { ok: false, scan };
         }
         let p = index_table::layout::pointer(index, h.entries, page, i);
-        let next = crate::entries::scan_entry(w, keys, used, held, scan, wide(d), p);
+        let next = crate::entries::scan_inner(w, keys, used, scan, wide(d), p);
         if !next.ok {
             return next;
         }
         scan = next.scan;
         i += 1;
+    }
+    if held < scan.live {
+        return Checked { ok: false, scan };
     }
     let d = index_table::layout::depth(index, h.entries, page, i);
     if d != c {
