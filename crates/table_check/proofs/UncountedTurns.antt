@@ -38,10 +38,10 @@ module _ {h : Index} {index : List ℕ} {c n : ℕ} {row : List Ref} {map : List
   )
 
   -- What is refused before the live entries are compared is refused.
-  pub refused-uncounted : {keys used : List ℕ} {s : Scan} {es : List Entry} {r : Checked} → h .held ≤ countless → r .ok ≡ false
-      → Scanned (RowSound (uncounted h) index c n row map) (h .width) keys used countless s es r → Scanned (RowSound h index c n row map) (h .width) keys used (h .held) s es r
-  refused-uncounted {r} l o z =
-      scanned-no r o (λ a p. true≢false (sym (z .verdict .1 (row-uncounted .0 a, record { fits = p .fits; few = omega (arith, p .few) })) ∙ o))
+  pub refused-uncounted : {keys used : List ℕ} {s : Scan} {es : List Entry} {r′ : Checked} → h .held ≤ countless → r′ .ok ≡ false
+      → Scanned (RowSound (uncounted h) index c n row map) (h .width) keys used countless s es r′ → (r : Checked) → r .ok ≡ false → Scanned (RowSound h index c n row map) (h .width) keys used (h .held) s es r
+  refused-uncounted l o z r e =
+      scanned-no r e (λ a p. true≢false (sym (z .verdict .1 (row-uncounted .0 a, record { fits = p .fits; few = omega (arith, p .few) })) ∙ o))
 
 module _ {h : Index} {index keys used : List ℕ} {page c count : ℕ} {s₀ s : Scan} {i : ℕ} (t : RowTurn (uncounted h) index keys used page c 0 count [] s₀ [] s i) where
   -- More entries are live than records are held: no.

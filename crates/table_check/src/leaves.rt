@@ -49,22 +49,22 @@ pub fn scan_leaves(
     while i < last {
         let d = index_table::layout::depth(index, h.entries, page, i);
         if d <= c {
-            return Checked { ok: false, scan };
+            return Checked { ok: false, scan: s };
         }
         let p = index_table::layout::pointer(index, h.entries, page, i);
         let next = crate::entries::scan_inner(w, keys, used, scan, wide(d), p);
         if !next.ok {
-            return next;
+            return Checked { ok: false, scan: s };
         }
         scan = next.scan;
         i += 1;
     }
     if held < scan.live {
-        return Checked { ok: false, scan };
+        return Checked { ok: false, scan: s };
     }
     let d = index_table::layout::depth(index, h.entries, page, i);
     if d != c {
-        return Checked { ok: false, scan };
+        return Checked { ok: false, scan: s };
     }
     let p = index_table::layout::pointer(index, h.entries, page, i);
     crate::entries::scan_entry(w, keys, used, held, scan, wide(d), p)

@@ -12,11 +12,11 @@ use Rattle.table_check.proofs.leaves.scan_leaves.Statement.{statement}
 use Rattle.table_check.proofs.leaves.scan_leaves.Tie as tie
 
 abbrev Inv-loop : tie.InvT-loop
-Inv-loop index keys used h page c w held n last scan₀ i₀ scan i =
+Inv-loop index keys used h page c s w held n last scan₀ i₀ scan i =
     (i ≤ last) × (scan .live ≤ h .held + i) × (scan .closed ≡ false) × RowTurn (uncounted h) index keys used (page .0) c 0 n [] scan₀ [] scan i
 
 abbrev μ-loop : tie.MeasureT-loop
-μ-loop index keys used h page c w held n last scan₀ i₀ scan i = last - i
+μ-loop index keys used h page c s w held n last scan₀ i₀ scan i = last - i
 
 wide-requires : tie.Need-wide-requires Inv-loop μ-loop
 wide-requires c κs = search needs
@@ -46,7 +46,7 @@ depth-requires : tie.Need-depth-requires Inv-loop μ-loop
 depth-requires c κs = (c .before .before .before .before .before .before .before .before .before .before .before .pre .within, entry-few (c .before .before .before .before .before .before .before .before .before .before .before .args .h) (c .before .before .before .before .before .before .before .before .before .before .before .args .index .now) (c .before .before .before .before .before .before .before .before .before .before .before .args .page .0) _ _ (c .before .before .before .before .wide2 .ensures .0 ∙ c .before .before .before .before .before .count .ensures) (c .before .before .before .before .before .before .before .before .before .before .before .pre .few) (omega (arith, c .loop-test .taken)))
 
 returns-3 : tie.Need-returns-3 Inv-loop μ-loop
-returns-3 c = refused-uncounted (omega (arith, c .before .before .before .before .before .before .before .before .wide16 .ensures)) refl (row-depth (c .before .before .before .loop .inv .3) (omega (arith, c .before .before .loop-test .taken)) _ (c .before .depth .ensures) (rw (ne-eqb (c .before .before .before .loop .i + 1) (c .before .before .before .before .before .before .wide2 .result) (omega (arith, c .before .before .loop-test .taken))) (le-ltb _ _ (c .if3 .taken))) _ refl)
+returns-3 c = refused-uncounted (omega (arith, c .before .before .before .before .before .before .before .before .wide16 .ensures)) refl (row-depth (c .before .before .before .loop .inv .3) (omega (arith, c .before .before .loop-test .taken)) _ (c .before .depth .ensures) (rw (ne-eqb (c .before .before .before .loop .i + 1) (c .before .before .before .before .before .before .wide2 .result) (omega (arith, c .before .before .loop-test .taken))) (le-ltb (c .before .before .before .before .before .before .before .before .before .before .before .before .before .args .c) (c .before .depth .result) (omega (arith, c .if3 .taken)))) (record { ok = false; scan = c .before .before .before .before .before .before .before .before .before .before .before .before .before .args .s }) refl) _ refl
 
 pointer-requires : tie.Need-pointer-requires Inv-loop μ-loop
 pointer-requires c κs = (c .before .before .before .before .before .before .before .before .before .before .before .before .before .pre .within, entry-few (c .before .before .before .before .before .before .before .before .before .before .before .before .before .args .h) (c .before .before .before .before .before .before .before .before .before .before .before .before .before .args .index .now) (c .before .before .before .before .before .before .before .before .before .before .before .before .before .args .page .0) _ _ (c .before .before .before .before .before .before .wide2 .ensures .0 ∙ c .before .before .before .before .before .before .before .count .ensures) (c .before .before .before .before .before .before .before .before .before .before .before .before .before .pre .few) (omega (arith, c .before .before .loop-test .taken)))
@@ -58,7 +58,7 @@ scan-inner-requires : tie.Need-scan-inner-requires Inv-loop μ-loop
 scan-inner-requires c κs = (omega (arith, c .before .before .before .before .before .before .before .before .before .before .before .before .before .before .before .pre .width, c .before .before .before .before .before .before .before .before .before .before .before .wide .ensures .0), omega (arith, c .wide3 .ensures .0, c .before .before .if3 .left), c .before .before .before .before .before .loop .inv .2, omega (arith, c .before .before .before .before .before .loop .inv .1, c .before .before .before .before .loop-test .taken, c .before .before .before .before .before .before .before .before .wide2 .ensures .1, c .before .before .before .before .before .before .before .before .before .before .wide16 .ensures), rw (c .before .before .before .before .before .before .before .before .before .before .before .wide .ensures .0) (c .before .before .before .before .before .loop .inv .3 .turned .carried), rw (c .before .before .before .before .before .before .before .before .before .before .before .wide .ensures .0) (c .before .before .before .before .before .before .before .before .before .before .before .before .before .before .before .pre .register))
 
 returns-4 : tie.Need-returns-4 Inv-loop μ-loop
-returns-4 c = refused-uncounted (omega (arith, c .before .before .before .before .before .before .before .before .before .before .before .before .before .wide16 .ensures)) (not-true _ (c .if4 .taken)) (row-entry (c .before .before .before .before .before .before .before .before .loop .inv .3) (omega (arith, c .before .before .before .before .before .before .before .loop-test .taken)) (leaf-sound _ _ _ _ _ (c .before .before .before .before .before .before .before .before .before .before .before .before .before .before .wide .ensures .0) refl (c .before .before .before .wide3 .ensures .0 ∙ c .before .before .before .before .before .before .depth .ensures) (c .before .before .before .before .pointer .ensures .0) (c .before .before .scan-inner .ensures .0)) (not-true _ (c .if4 .taken)))
+returns-4 c = refused-uncounted (omega (arith, c .before .before .before .before .before .before .before .before .before .before .before .before .before .wide16 .ensures)) (not-true _ (c .if4 .taken)) (row-entry (c .before .before .before .before .before .before .before .before .loop .inv .3) (omega (arith, c .before .before .before .before .before .before .before .loop-test .taken)) (leaf-sound _ _ _ _ _ (c .before .before .before .before .before .before .before .before .before .before .before .before .before .before .wide .ensures .0) refl (c .before .before .before .wide3 .ensures .0 ∙ c .before .before .before .before .before .before .depth .ensures) (c .before .before .before .before .pointer .ensures .0) (c .before .before .scan-inner .ensures .0)) (not-true _ (c .if4 .taken))) _ refl
 
 add-i : tie.Need-add-i Inv-loop μ-loop
 add-i c = search needs
@@ -76,7 +76,7 @@ depth-requires-2 : tie.Need-depth-requires-2 Inv-loop μ-loop
 depth-requires-2 c κs = (c .before .before .before .before .before .before .before .before .before .before .before .before .before .pre .within, entry-few (c .before .before .before .before .before .before .before .before .before .before .before .before .before .args .h) (c .before .before .before .before .before .before .before .before .before .before .before .before .before .args .index .now) (c .before .before .before .before .before .before .before .before .before .before .before .before .before .args .page .0) _ _ (c .before .before .before .before .before .before .wide2 .ensures .0 ∙ c .before .before .before .before .before .before .before .count .ensures) (c .before .before .before .before .before .before .before .before .before .before .before .before .before .pre .few) (omega (arith, c .before .before .before .loop .inv .0, c .before .before .before .before .before .if1 .left)))
 
 returns-6 : tie.Need-returns-6 Inv-loop μ-loop
-returns-6 c = row-depth (turn-counted (c .before .before .before .before .before .loop .inv .3) (omega (arith, c .before .before .before .before .before .before .before .before .before .before .wide16 .ensures)) (omega (arith, c .before .before .if5 .left, c .before .before .before .before .before .before .before .before .before .before .wide16 .ensures))) (omega (arith, c .before .before .before .before .before .loop .inv .0, c .before .before .before .before .before .before .before .if1 .left)) _ (c .before .depth2 .ensures) (rw (eq-eqb (c .before .before .before .before .before .loop .i + 1) (c .before .before .before .before .before .before .before .before .wide2 .result) (omega (arith, c .before .before .before .before .loop-test .left, c .before .before .before .before .before .loop .inv .0, c .before .before .before .before .before .before .before .if1 .left))) (ne-eqb _ _ (c .if6 .taken))) _ refl
+returns-6 c = row-depth (turn-counted (c .before .before .before .before .before .loop .inv .3) (omega (arith, c .before .before .before .before .before .before .before .before .before .before .wide16 .ensures)) (omega (arith, c .before .before .if5 .left, c .before .before .before .before .before .before .before .before .before .before .wide16 .ensures))) (omega (arith, c .before .before .before .before .before .loop .inv .0, c .before .before .before .before .before .before .before .if1 .left)) _ (c .before .depth2 .ensures) (rw (eq-eqb (c .before .before .before .before .before .loop .i + 1) (c .before .before .before .before .before .before .before .before .wide2 .result) (omega (arith, c .before .before .before .before .loop-test .left, c .before .before .before .before .before .loop .inv .0, c .before .before .before .before .before .before .before .if1 .left))) (ne-eqb (c .before .depth2 .result) (c .before .before .before .before .before .before .before .before .before .before .before .before .before .before .before .args .c) (λ z. omega (arith, c .if6 .taken)))) _ refl
 
 pointer-requires-2 : tie.Need-pointer-requires-2 Inv-loop μ-loop
 pointer-requires-2 c κs = (c .before .before .before .before .before .before .before .before .before .before .before .before .before .before .before .pre .within, entry-few (c .before .before .before .before .before .before .before .before .before .before .before .before .before .before .before .args .h) (c .before .before .before .before .before .before .before .before .before .before .before .before .before .before .before .args .index .now) (c .before .before .before .before .before .before .before .before .before .before .before .before .before .before .before .args .page .0) _ _ (c .before .before .before .before .before .before .before .before .wide2 .ensures .0 ∙ c .before .before .before .before .before .before .before .before .before .count .ensures) (c .before .before .before .before .before .before .before .before .before .before .before .before .before .before .before .pre .few) (omega (arith, c .before .before .before .before .before .loop .inv .0, c .before .before .before .before .before .before .before .if1 .left)))
