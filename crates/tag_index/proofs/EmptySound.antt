@@ -15,7 +15,7 @@ use Rattle.leaf_list.specs.Register.{keyAt, herdFrom, herdOf, countInUse}
 use Rattle.leaf_list.proofs.Literal.{twin}
 use Rattle.page_tree.specs.Tree.{leavesOf, leaves as leaves-of}
 use Rattle.index_table.specs.Bytes.{over, AllZero}
-use Rattle.index_table.specs.Layout.{Layout, Ref, layoutOf, pageSize, pageStart, pageBytes, levelOf, refsOf, Within, Fitting, rowPage, store}
+use Rattle.index_table.specs.Layout.{Ref, layoutOf, pageSize, pageStart, pageBytes, levelOf, refsOf, Within, Fitting, rowPage, store}
 use Rattle.index_table.specs.Header.{widthOf, rootOf, heldOf, headerBytes}
 use Rattle.index_table.specs.Pages.{pagesAt, nodeAt, met, metAll, same, inUse, treeAt}
 use Rattle.index_table.specs.Soundness.{Limits, SoundRegister, Cleared, SoundPages, Sound}
@@ -83,9 +83,6 @@ zeros-part (suc n) zero (suc k) = (refl, zeros-part n zero k)
 zeros-part (suc n) (suc at) (suc k) = zeros-part n at (suc k)
 
 module _ (w e p n : ℕ) (limits : Limits w e p n) where
-  abbrev L : Layout
-  L = layoutOf e
-
   abbrev zeros : List ℕ
   zeros = replicate (pageStart (layoutOf e) p) 0
 
