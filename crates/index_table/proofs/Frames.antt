@@ -7,7 +7,7 @@ use native.Mathlib.Omega.{arith}
 use lib.ListN.{length, getD}
 use Rattle.page_tree.specs.Rows.{All}
 use Rattle.index_table.specs.Layout.{Layout, Ref, pageSize, pageStart, Within, pageBytes, refsOf, pageOf, Fitting, store}
-use Rattle.index_table.specs.Pages.{Pages, pagesAt, nodeAt, same, met, metAll}
+use Rattle.index_table.specs.Pages.{Pages, pagesAt, nodeAt, numberedAt, same, met, metAll}
 use Rattle.index_table.specs.Soundness.{SoundBelow}
 use Rattle.index_table.proofs.PageBytes.{page-beyond, page-stored, other-page}
 use Rattle.index_table.proofs.PageRows.{length-refs, length-page-of, refs-page-of}
@@ -40,12 +40,14 @@ met-self n pages x = omega (arith, same-self (x .1))
 -- What is read below an entry is the same of two tables.
 pub record Unchanged (L : Layout) (n : ℕ) (b b′ : List ℕ) (x : Ref) : Type 0 where
   pub node : (nil : ℕ) → nodeAt nil n (pagesAt L b′) x ≡ nodeAt nil n (pagesAt L b) x
+  pub numbered : (nil : ℕ) → numberedAt nil n (pagesAt L b′) x ≡ numberedAt nil n (pagesAt L b) x
   pub meets : (q : ℕ) → met n (pagesAt L b′) x q ≡ met n (pagesAt L b) x q
   pub sound : (P : ℕ) → SoundBelow L P n b x → SoundBelow L P n b′ x
 
 -- The same for a row of entries.
 pub record UnchangedRow (L : Layout) (n : ℕ) (b b′ : List ℕ) (row : List Ref) : Type 0 where
   pub nodes : (nil : ℕ) → map (nodeAt nil n (pagesAt L b′)) row ≡ map (nodeAt nil n (pagesAt L b)) row
+  pub numbereds : (nil : ℕ) → map (numberedAt nil n (pagesAt L b′)) row ≡ map (numberedAt nil n (pagesAt L b)) row
   pub meets : (q : ℕ) → metAll n (pagesAt L b′) row q ≡ metAll n (pagesAt L b) row q
   pub sound : (P : ℕ) → All (SoundBelow L P n b) row → All (SoundBelow L P n b′) row
 
@@ -56,21 +58,27 @@ Keeps L b b′ f = (q : ℕ) → 1 ≤ f q → pageBytes L b′ q ≡ pageBytes 
 module _ (L : Layout) (b b′ : List ℕ) where
   each : (n : ℕ) → ((x : Ref) → Keeps L b b′ (met n (pagesAt L b) x) → Unchanged L n b b′ x)
       → (row : List Ref) → Keeps L b b′ (metAll n (pagesAt L b) row) → UnchangedRow L n b b′ row
-  each n f [] h = record { nodes = λ nil. refl; meets = λ q. refl; sound = λ P s. tt }
+  each n f [] h = record { nodes = λ nil. refl; numbereds = λ nil. refl; meets = λ q. refl; sound = λ P s. tt }
   each n f (x ∷ row) h =
       let a = f x (λ q k. h q (omega arith)) in
       let c = each n f row (λ q k. h q (omega arith)) in
-      record { nodes = λ nil. ap₂ (λ y l. y ∷ l) (a .node nil) (c .nodes nil); meets = λ q. omega (arith, a .meets q, c .meets q); sound = λ P s. (a .sound P (s .0), c .sound P (s .1)) }
+      record {
+        nodes = λ nil. ap₂ (λ y l. y ∷ l) (a .node nil) (c .nodes nil);
+        numbereds = λ nil. ap₂ (λ y l. y ∷ l) (a .numbered nil) (c .numbereds nil);
+        meets = λ q. omega (arith, a .meets q, c .meets q);
+        sound = λ P s. (a .sound P (s .0), c .sound P (s .1));
+      }
 
   -- An entry below which all pages met keep their bytes.
   pub unchanged : (n : ℕ) (x : Ref) → Keeps L b b′ (met n (pagesAt L b) x) → Unchanged L n b b′ x
-  unfolding met nodeAt
-  unchanged zero x h = record { node = λ nil. refl; meets = λ q. refl; sound = λ P s. tt }
+  unfolding met nodeAt numberedAt
+  unchanged zero x h = record { node = λ nil. refl; numbered = λ nil. refl; meets = λ q. refl; sound = λ P s. tt }
   unchanged (suc n) x h =
       let e : pageBytes L b′ (x .1) ≡ pageBytes L b (x .1) = h (x .1) (met-self n (pagesAt L b) x) in
       let a = each n (unchanged n) (pagesAt L b (x .1)) (λ q k. h q (omega arith)) in
       record {
         node = λ nil. rw e (a .nodes nil);
+        numbered = λ nil. rw e (ap (λ l. (x .1, l)) (a .numbereds nil));
         meets = λ q. rw e (omega (arith, a .meets q));
         sound = λ P s. (record { number = s .0 .number; level = rw e (s .0 .level); some = rw e (s .0 .some); few = rw e (s .0 .few) }, rw e (s .1), rw e (a .sound P (s .2)));
       }

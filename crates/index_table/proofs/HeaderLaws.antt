@@ -7,19 +7,10 @@ use lib.ListN.{length, getD, take, drop, replicate}
 use lib.Seq.{getD-take}
 use Rattle.index_table.specs.Bytes.{bytesOf, over}
 use Rattle.index_table.specs.Layout.{Layout, layoutOf, pageSize, pageStart, pageBytes, store}
-use Rattle.index_table.specs.Header.{wordAt, widthOf, entriesOf, pagesOf, rootOf, heldOf, spareOf, headerBytes, withRoot, withHeld}
+use Rattle.index_table.specs.Header.{wordAt, widthOf, entriesOf, pagesOf, rootOf, heldOf, spareOf, headerBytes, withRoot, withHeld, HeaderFrom}
 use Rattle.index_table.proofs.ListLaws.{take-drop, read-over, part-behind, getD-over, getD-over-behind, getD-over-before}
 use Rattle.index_table.proofs.NumberLaws.{length-bytes, bytes-two}
 use Rattle.index_table.proofs.PageBytes.{front-store}
-
--- The header of b′ is that of b, but for the root and the records held.
-pub record HeaderFrom (b b′ : List ℕ) (r h : ℕ) : Type 0 where
-  pub width : widthOf b′ ≡ widthOf b
-  pub entries : entriesOf b′ ≡ entriesOf b
-  pub pages : pagesOf b′ ≡ pagesOf b
-  pub root : rootOf b′ ≡ r
-  pub held : heldOf b′ ≡ h
-  pub spare : spareOf b′ ≡ spareOf b
 
 abbrev word : ℕ → ℕ → ℕ
 word x y = x * 256 + y

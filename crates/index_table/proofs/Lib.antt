@@ -12,3 +12,5 @@ pub mod UsedPages
 pub mod HeaderLaws
 pub mod Writing
 pub mod RowWriting
+pub mod StandingLaws
+pub mod NumberedPages

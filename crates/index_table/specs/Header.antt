@@ -1,4 +1,5 @@
 -- The index table's header (01, "Pages": "Header: byte 0 W; byte 1 E ..; bytes 2-3 P; 4-5 root page; 6-7 records held; the rest zero"). Assumes nothing.
+use mathlib.Core.Path.{_≡_}
 use mathlib.Core.List.{List, [], _∷_, _++_}
 use Prim.Native.Nat.{ℕ, suc, _+_, _*_}
 use lib.ListN.{getD, take, drop}
@@ -36,3 +37,12 @@ withRoot b root = over b 4 (bytesOf 2 root)
 
 abbrev pub withHeld : List ℕ → ℕ → List ℕ
 withHeld b held = over b 6 (bytesOf 2 held)
+
+-- The header of b′ is that of b, but for the root and the records held.
+pub record HeaderFrom (b b′ : List ℕ) (r h : ℕ) : Type 0 where
+  pub width : widthOf b′ ≡ widthOf b
+  pub entries : entriesOf b′ ≡ entriesOf b
+  pub pages : pagesOf b′ ≡ pagesOf b
+  pub root : rootOf b′ ≡ r
+  pub held : heldOf b′ ≡ h
+  pub spare : spareOf b′ ≡ spareOf b

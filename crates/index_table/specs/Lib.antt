@@ -6,3 +6,4 @@ pub mod Soundness
 pub mod Answers
 pub mod IndexNumbers
 pub mod Storing
+pub mod Standing

@@ -5,9 +5,10 @@ use mathlib.Core.List.{List, map}
 use Prim.Native.Nat.{ℕ, zero, suc, _+_, min}
 use lib.Dec.{eqb}
 use lib.ListN.{length}
-use Rattle.leaf_list.specs.Entries.{entry}
+use Rattle.leaf_list.specs.Entries.{Entry, entry}
 use Rattle.page_tree.specs.Rows.{sum}
 use Rattle.page_tree.specs.Tree.{Node, Tree}
+use Rattle.page_tree.specs.Numbered.{Numbered, NumberedTree}
 use Rattle.index_table.specs.Layout.{Layout, Ref, pageBytes, refsOf}
 
 -- The entries of each page.
@@ -21,10 +22,19 @@ pagesAt L b p = refsOf L (pageBytes L b p)
 abbrev pub recordOf : ℕ → ℕ → Option ℕ
 recordOf nil pointer = cond (eqb pointer nil) none (some pointer)
 
+-- The entry of a leaf list that a stored entry of a page of level 0 is.
+abbrev pub leafOf : ℕ → Ref → Entry
+leafOf nil x = entry (x .0) (recordOf nil (x .1))
+
 -- What an entry of rank n stands for: of rank 0 it stands in a page of level 0; of rank n + 1 it points at a page of level n.
 unfoldable pub nodeAt : ℕ → (n : ℕ) → Pages → Ref → Node n
-nodeAt nil zero pages x = entry (x .0) (recordOf nil (x .1))
+nodeAt nil zero pages x = leafOf nil x
 nodeAt nil (suc n) pages x = map (nodeAt nil n pages) (pages (x .1))
+
+-- The same with the numbers of the pages.
+unfoldable pub numberedAt : ℕ → (n : ℕ) → Pages → Ref → Numbered n
+numberedAt nil zero pages x = leafOf nil x
+numberedAt nil (suc n) pages x = (x .1, map (numberedAt nil n pages) (pages (x .1)))
 
 -- 1 if the two pages are one, else 0.
 unfoldable pub same : ℕ → ℕ → ℕ
@@ -59,3 +69,6 @@ rootRef root = (0, root)
 -- The tree below a root page of a level.
 abbrev pub treeAt : ℕ → Pages → ℕ → ℕ → Tree
 treeAt nil pages level root = (level, nodeAt nil (suc level) pages (rootRef root))
+
+abbrev pub numberedTreeAt : ℕ → Pages → ℕ → ℕ → NumberedTree
+numberedTreeAt nil pages level root = (level, numberedAt nil (suc level) pages (rootRef root))

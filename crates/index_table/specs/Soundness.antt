@@ -8,11 +8,12 @@ use Rattle.leaf_list.specs.Entries.{Entry}
 use Rattle.leaf_list.specs.LeafList.{leafList}
 use Rattle.leaf_list.specs.Register.{herdOf, countInUse}
 use Rattle.page_tree.specs.Rows.{All, Closed}
-use Rattle.page_tree.specs.Tree.{leavesOf}
+use Rattle.page_tree.specs.Tree.{Tree, leavesOf}
+use Rattle.page_tree.specs.Numbered.{NumberedTree}
 use Rattle.index_table.specs.Bytes.{AllZero}
 use Rattle.index_table.specs.Layout.{Layout, layoutOf, pageSize, entrySize, pageBytes, levelOf, countOf, Ref, nilPointer}
 use Rattle.index_table.specs.Header.{widthOf, entriesOf, pagesOf, rootOf, heldOf, spareOf}
-use Rattle.index_table.specs.Pages.{pagesAt, met, inUse, rootRef, treeAt}
+use Rattle.index_table.specs.Pages.{pagesAt, met, inUse, rootRef, treeAt, numberedTreeAt}
 
 -- "Named limits: 255 entries a page, 65,534 records, 15 as the highest root level. E is at least 2, P from 1 to 65,534,
 -- the register at least one record"; "W from 1 to 64". A byte is at most 255.
@@ -74,9 +75,17 @@ pub record SoundPages (L : Layout) (P : ℕ) (b : List ℕ) (level root : ℕ) :
 abbrev pub rootLevel : List ℕ → ℕ
 rootLevel b = levelOf (pageBytes (layoutOf (entriesOf b)) b (rootOf b))
 
+-- What is read from the root down, page numbers aside,
+abbrev pub treeOf : List ℕ → Tree
+treeOf b = treeAt (nilPointer (layoutOf (entriesOf b))) (pagesAt (layoutOf (entriesOf b)) b) (rootLevel b) (rootOf b)
+
+-- and with them.
+abbrev pub numberedTreeOf : List ℕ → NumberedTree
+numberedTreeOf b = numberedTreeAt (nilPointer (layoutOf (entriesOf b))) (pagesAt (layoutOf (entriesOf b)) b) (rootLevel b) (rootOf b)
+
 -- The entries on level 0, read from left to right from the root.
 abbrev pub leafEntries : List ℕ → List Entry
-leafEntries b = leavesOf (treeAt (nilPointer (layoutOf (entriesOf b))) (pagesAt (layoutOf (entriesOf b)) b) (rootLevel b) (rootOf b))
+leafEntries b = leavesOf (treeOf b)
 
 pub record Sound (index keys used : List ℕ) : Type 0 where
   pub limits : Limits (widthOf index) (entriesOf index) (pagesOf index) (length used)

@@ -10,6 +10,12 @@ pub struct PageNo(pub u16);
 // A record's number, made from a pointer on level 0.
 pub struct RecordNo(pub u32);
 
+// A root page and its level.
+pub struct Root {
+    pub page: PageNo,
+    pub level: u8,
+}
+
 // What an entry on level 0 points at.
 pub enum Answer {
     Live(RecordNo),

@@ -166,23 +166,22 @@ appended-none from n other ds ps full = record {
 }
 
 -- One more.
+pub appended-next : {from i n k d p : ℕ} {es other : List Pair} {ds ps : List ℕ} → i < length other → k < 319 → _≡_ {A = Pair} (getD other i (0, 0)) (d, p)
+    → Appended from i n k es other ds ps → Appended from (i + 1) n (k + 1) es other (set ds k d) (set ps k p)
+appended-next {from} {i} {n} {k} {d} {p} {es} {other} {ds} {ps} il kl at h = record {
+  full = full-set ds ps k d p (h .full);
+  passed = omega (arith, h .passed);
+  count = omega (arith, h .passed, h .count);
+  entries =
+      stored-behind ds ps (h .full) k d p kl ∙ ap (λ l. l ++ (d, p) ∷ []) (h .entries) ∙ append-assoc es (slice from i other) ((d, p) ∷ [])
+      ∙ ap (λ l. es ++ l) (ap (λ x. slice from i other ++ x ∷ []) (sym at) ∙ sym (slice-more from i other (0, 0) (h .passed) il));
+}
+
+-- One more of another row.
 pub appended-more : (ods ops : List ℕ) → Full ods ops → {from i n k : ℕ} {es : List Pair} {ds ps : List ℕ} → i < 319 → k < 319
     → Appended from i n k es (zip ods ops) ds ps
     → Appended from (i + 1) n (k + 1) es (zip ods ops) (set ds k (getD ods i 0)) (set ps k (getD ops i 0))
-appended-more ods ops full {from} {i} {n} {k} {es} {ds} {ps} il kl h =
-    let o = zip ods ops in
-    let d = getD ods i 0 in
-    let p = getD ops i 0 in
-    record {
-      full = full-set ds ps k d p (h .full);
-      passed = omega (arith, h .passed);
-      count = omega (arith, h .passed, h .count);
-      entries =
-          stored-behind ds ps (h .full) k d p kl ∙ ap (λ l. l ++ (d, p) ∷ []) (h .entries) ∙ append-assoc es (slice from i o) ((d, p) ∷ [])
-          ∙ ap (λ l. es ++ l)
-          (ap (λ x. slice from i o ++ x ∷ []) (sym (place-at ods ops full i il))
-          ∙ sym (slice-more from i o (0, 0) (h .passed) (omega (arith, length-zip ods ops full))));
-    }
+appended-more ods ops full il kl h = appended-next (omega (arith, length-zip ods ops full)) kl (place-at ods ops full _ il) h
 
 -- All are appended.
 pub appended-all : {from i to n k : ℕ} {es other : List Pair} {ds ps : List ℕ} → i ≤ to → to ≤ i → Appended from i n k es other ds ps

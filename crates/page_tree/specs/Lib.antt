@@ -4,5 +4,6 @@ pub mod Cutting
 pub mod Walk
 pub mod Finding
 pub mod OnPages
+pub mod Numbered
 pub mod OffPages
 pub mod Row

@@ -16,10 +16,10 @@ use Rattle.leaf_list.proofs.Literal.{twin}
 use Rattle.page_tree.specs.Tree.{leavesOf, leaves as leaves-of}
 use Rattle.index_table.specs.Bytes.{over, AllZero}
 use Rattle.index_table.specs.Layout.{Ref, layoutOf, pageSize, pageStart, pageBytes, levelOf, refsOf, Within, Fitting, rowPage, store}
-use Rattle.index_table.specs.Header.{widthOf, rootOf, heldOf, headerBytes}
+use Rattle.index_table.specs.Header.{widthOf, rootOf, heldOf, headerBytes, HeaderFrom}
 use Rattle.index_table.specs.Pages.{pagesAt, nodeAt, met, metAll, same, inUse, treeAt}
 use Rattle.index_table.specs.Soundness.{Limits, SoundRegister, Cleared, SoundPages, Sound}
-use Rattle.index_table.proofs.HeaderLaws.{HeaderFrom, HeaderIs, length-header, header-written, store-header, page-behind}
+use Rattle.index_table.proofs.HeaderLaws.{HeaderIs, length-header, header-written, store-header, page-behind}
 use Rattle.index_table.proofs.ListLaws.{over-append, length-over}
 use Rattle.index_table.proofs.PageBytes.{within-table, page-stored, other-page, length-store}
 use Rattle.index_table.proofs.PageRows.{length-page-of}

@@ -1,3 +1,4 @@
 pub mod Format
+pub mod Changing
 pub mod Histories
 pub mod Reading
