@@ -1,0 +1,2 @@
+pub mod Dummies
+pub mod NewLeaves

@@ -1,1 +1,2 @@
 // On and off in sound tables.
+pub mod entries;
