@@ -16,7 +16,7 @@ use Rattle.page_tree.specs.Cutting.{parts}
 use Rattle.page_tree.specs.Walk.{rest, walk}
 use Rattle.page_tree.specs.Finding.{Found, nowhere, findBelow, findIn}
 use Rattle.page_tree.specs.OnPages.{Replacement, newEntries, replaceIn, insertBelow, grow, grown, insertTree, onTree}
-use Rattle.page_tree.specs.OffPages.{Left, Step, stepEntry, over, sweep, unlessEmpty, stepBelow, nextDepth, strike, strikeIn, deleteBelow, lower, rooted, offTree}
+use Rattle.page_tree.specs.OffPages.{Left, stepEntry, over, sweep, unlessEmpty, stepBelow, nextDepth, strike, strikeIn, deleteBelow, lower, rooted, offTree}
 use Rattle.page_tree.specs.Numbered.{Numbered, aside, numberedDepth, numberedLeaves, NumberedTree, treeAside, under, insertNumbered, growNumbered, grownNumbered, insertNumberedTree, onNumbered, keptUnder, stepNumbered, deleteNumbered, lowerNumbered, rootedNumbered, offNumbered}
 use Rattle.page_tree.proofs.RowMaps.{parts-map}
 
