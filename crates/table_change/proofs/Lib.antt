@@ -1,3 +1,4 @@
 pub mod Dummies
 pub mod NewLeaves
 pub mod Rerooted
+pub mod SoundAfter
