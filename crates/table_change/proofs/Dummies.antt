@@ -8,6 +8,7 @@ use native.Mathlib.Omega.{arith}
 use native.Mathlib.Numerals.{add-one}
 use lib.Dec.{ltb, leb}
 use lib.ListN.{length, set, take, drop}
+use lib.Seq.{length-take-le}
 use borrow.Author.Tests.{lt-ltb, le-ltb, le-leb}
 use Rattle.leaf_list.specs.Keys.{Key, bits}
 use Rattle.leaf_list.specs.Entries.{Entry, entry}
@@ -16,7 +17,7 @@ use Rattle.leaf_list.specs.Insertion.{dummies}
 use Rattle.leaf_list.proofs.Bits.{bits-length}
 use Rattle.leaf_list.proofs.Lists.{all-append}
 use Rattle.page_tree.specs.Row.{Pair}
-use Rattle.page_tree.proofs.RowLaws.{Full, full-set, stored-behind}
+use Rattle.page_tree.proofs.RowLaws.{Full, full-set, length-zip, stored-behind}
 use Rattle.index_table.specs.Layout.{Fitting, Ref}
 use Rattle.index_table.specs.Pages.{leafOf}
 use Rattle.table_search.specs.Places.{later, leftFrom, NextPosition}
@@ -126,3 +127,7 @@ pub dummying-all : {w key low high m : ℕ} {es : List Ref} {n p : ℕ} {ds ps :
 dummying-all {w} {key} {low} {high} {m} {es} {n} {p} {ds} {ps} g h =
     sym (append-nil (map (leafOf 65535) (take n (zip ds ps))))
     ∙ ap (λ (z : List Entry). map (leafOf 65535) (take n (zip ds ps)) ++ z) (sym (dummies-end w key low high p g)) ∙ h .entries
+
+-- As many entries as the count says.
+pub dummying-counted : {w key low high m : ℕ} {es : List Ref} {n p : ℕ} {ds ps : List ℕ} → n ≤ 319 → Dummying w key low high m es n p ds ps → length (take n (zip ds ps)) ≡ n
+dummying-counted {w} {key} {low} {high} {m} {es} {n} {p} {ds} {ps} l h = length-take-le n (zip ds ps) (omega (arith, l, length-zip ds ps (h .full)))

@@ -2,3 +2,4 @@ pub mod Dummies
 pub mod NewLeaves
 pub mod Rerooted
 pub mod SoundAfter
+pub mod FoundEntries

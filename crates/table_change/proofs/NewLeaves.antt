@@ -7,7 +7,7 @@ use mathlib.Core.List.{List, [], _∷_, _++_, map, map-append, append-assoc}
 use Prim.Native.Nat.{ℕ, suc, _+_, _^_, _≤_, _<_}
 use native.Mathlib.Omega.{arith}
 use lib.Dec.{ltb}
-use lib.ListN.{length}
+use lib.ListN.{length, length-append}
 use borrow.Author.Tests.{lt-ltb, le-ltb}
 use Rattle.leaf_list.specs.Keys.{Key, bits, below, firstDifference}
 use Rattle.leaf_list.specs.Entries.{Entry, entry}
@@ -42,7 +42,7 @@ module _ {w key r old : ℕ} {leaf : Leaf} (pre : NewPre w key r old leaf) {b l 
       record {
         entries = λ keyOf e. rw (entries, live, taken, e, ← difference, ← depth, lt-ltb b l h) refl;
         fitting = rw entries (fits [] (b, leaf .pointer) (leaf .depth, r) tt (omega (arith, pre .live)) (omega (arith, pre .free-record)));
-        few = omega (arith, g .count, z .count);
+        counted = ap length entries ∙ omega (arith, g .count, z .count);
       }
 
   -- It is below: dummies, and the two leaves in key order.
@@ -64,10 +64,11 @@ module _ {w key r old : ℕ} {leaf : Leaf} (pre : NewPre w key r old leaf) {b l 
         ∙ dummies-append l b (positions 0 (bits w key)) [] (bothLeaves (below (bits w key) (bits w old)) b (leaf .depth) r (leaf .pointer) [])
 
     pub new-below : NewPost w key r old leaf row
+    unfolding two
     new-below = record {
       entries = λ keyOf e. rw (live, e, ← difference, ← depth, le-ltb b l h) whole;
       fitting = rw (g .entries) (fits (rowOf dummied) (b, x) (leaf .depth, y) (d .fitting (rw (z .entries) tt)) (omega (arith, x-fits)) (omega (arith, y-fits)));
-      few = omega (arith, g .count, d .few, z .count, pre .width);
+      counted = ap length (g .entries) ∙ length-append (rowOf dummied) two ∙ omega (arith, g .count, d .counted);
     }
 
   pub order-smaller : key < old → bothLeaves (below (bits w key) (bits w old)) b (leaf .depth) r (leaf .pointer) [] ≡ entry b (some r) ∷ entry (leaf .depth) (some (leaf .pointer)) ∷ []
@@ -84,7 +85,7 @@ module _ {keys : List ℕ} {w key r : ℕ} {leaf : Leaf} (pre : FoundPre keys w 
       record {
         entries = rw (entries, record-nil e, record-live {p = r} (λ q. omega (arith, pre .free-record, q))) refl;
         fitting = rw entries (omega (arith, pre .free-record), tt);
-        few = omega (arith, g .count, z .count);
+        counted = ap length entries ∙ omega (arith, g .count, z .count);
       }
 
   -- The leaf of another key.
@@ -101,4 +102,4 @@ module _ {keys : List ℕ} {w key r : ℕ} {leaf : Leaf} (pre : FoundPre keys w 
   }
 
   pub new-beside : {row : Row} → NewPost w key r (keyAt keys (leaf .pointer)) leaf row → NewEntries keys w key r leaf row
-  new-beside p = record { entries = p .entries (λ x. bits w (keyAt keys x)) refl; fitting = p .fitting; few = p .few }
+  new-beside p = record { entries = p .entries (λ x. bits w (keyAt keys x)) refl; fitting = p .fitting; counted = p .counted }

@@ -31,6 +31,7 @@ pub record DummiesPost (row : Row) (w key low high : ℕ) (r : Row) : Type 0 whe
   pub entries : entriesIn r ≡ entriesIn row ++ dummies low high (positions 0 (bits w key)) []
   pub fitting : Fitting 2 (rowOf row) → Fitting 2 (rowOf r)
   pub few : r .count ≤ row .count + w
+  pub counted : length (rowOf r) ≡ r .count
 
 pub record LeavesPre (row : Row) (b d : ℕ) : Type 0 where
   pub shallow : b ≤ 64
@@ -68,10 +69,10 @@ entryOf leaf = entry (leaf .depth) (recordOf 65535 (leaf .pointer))
 pub record NewPost (w key r old : ℕ) (leaf : Leaf) (row : Row) : Type 0 where
   pub entries : (keyOf : ℕ → Key) → keyOf (leaf .pointer) ≡ bits w old → entriesIn row ≡ insertAt keyOf (bits w key) r (leaf .trail) (entryOf leaf ∷ [])
   pub fitting : Fitting 2 (rowOf row)
-  pub few : row .count ≤ 200
+  pub counted : length (rowOf row) ≡ row .count
 
 -- 5.1 at the entry found.
 pub record NewEntries (keys : List ℕ) (w key r : ℕ) (leaf : Leaf) (row : Row) : Type 0 where
   pub entries : entriesIn row ≡ insertAt (λ x. bits w (keyAt keys x)) (bits w key) r (leaf .trail) (entryOf leaf ∷ [])
   pub fitting : Fitting 2 (rowOf row)
-  pub few : row .count ≤ 200
+  pub counted : length (rowOf row) ≡ row .count

@@ -4,7 +4,7 @@ use native.Mathlib.Omega.{arith}
 use Prim.Native.Nat.{ℕ, suc, _+_, _-_, _≤_, _<_, _^_}
 use lib.ListN.{take}
 use Rattle.page_tree.specs.Row.{places}
-use Rattle.table_change.proofs.Dummies.{Dummying, dummying-none, dummying-more, dummying-all}
+use Rattle.table_change.proofs.Dummies.{Dummying, dummying-none, dummying-more, dummying-all, dummying-counted}
 use Rattle.table_change.proofs.entries.push_dummies.Statement.{statement}
 use Rattle.table_change.proofs.entries.push_dummies.Tie as tie
 
@@ -63,7 +63,7 @@ loop-again c =
 returns : tie.Need-returns Inv-loop μ-loop
 returns c =
     let inv = c .before .loop .inv in
-    record { entries = dummying-all (omega arith) (inv .4); fitting = inv .4 .fitting; few = omega (arith, inv .4 .few, inv .4 .inside) }
+    record { entries = dummying-all (omega arith) (inv .4); fitting = inv .4 .fitting; few = omega (arith, inv .4 .few, inv .4 .inside); counted = dummying-counted (omega (arith, inv .0, inv .3, inv .4 .few, inv .4 .inside)) (inv .4) }
 
 pub push-dummies-spec : {M : Type 1} → statement M
 push-dummies-spec =
