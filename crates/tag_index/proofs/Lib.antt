@@ -4,3 +4,6 @@ pub mod FormatLimits
 pub mod Histories
 pub mod Judging
 pub mod Runs
+pub mod ReachedPages
+pub mod RecordKeys
+pub mod MapSteps
