@@ -3,3 +3,4 @@ pub mod NewLeaves
 pub mod Rerooted
 pub mod SoundAfter
 pub mod FoundEntries
+pub mod Changed

@@ -80,7 +80,7 @@ module _ (w : ℕ) (keys used : List ℕ) (r key byte : ℕ) (sound : SoundRegis
 -- ---- the tables
 
 -- What is read from the root down, page numbers aside.
-numbered-tree : (index : List ℕ) → treeAside (numberedTreeOf index) ≡ treeOf index
+pub numbered-tree : (index : List ℕ) → treeAside (numberedTreeOf index) ≡ treeOf index
 numbered-tree index = tree-aside 65535 (pagesAt (layoutOf (entriesOf index)) index) (rootLevel index) (rootOf index)
 
 module _ {index keys used : List ℕ} (s : Sound index keys used) where
