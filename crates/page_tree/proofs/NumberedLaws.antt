@@ -1,8 +1,8 @@
 -- Trees with page numbers: page numbers aside, on and off make of them what they make of trees without (01, "page numbers aside"). Assumes nothing.
-use mathlib.Core.Path.{_≡_, refl, ap, sym, _∙_}
+use mathlib.Core.Path.{_≡_, refl, ap, ap₂, sym, _∙_}
 use mathlib.Core.Bool.{Bool, true, false, cond}
 use mathlib.Core.List.{List, [], _∷_, _++_, map, map-append, map-id}
-use Prim.Native.Nat.{ℕ, zero, suc}
+use Prim.Native.Nat.{ℕ, zero, suc, _+_, _-_, max}
 use lib.Dec.{ltb}
 use lib.ListN.{length, length-map}
 use Rattle.leaf_list.specs.Keys.{bits}
@@ -15,10 +15,11 @@ use Rattle.page_tree.specs.Tree.{Node, depth, leaves, Tree}
 use Rattle.page_tree.specs.Cutting.{parts}
 use Rattle.page_tree.specs.Walk.{rest, walk}
 use Rattle.page_tree.specs.Finding.{Found, nowhere, findBelow, findIn}
-use Rattle.page_tree.specs.OnPages.{Replacement, newEntries, replaceIn, insertBelow, grow, grown, insertTree, onTree}
+use Rattle.page_tree.specs.OnPages.{Replacement, newEntries, replaceIn, insertBelow, pagesBelow, grow, grown, insertTree, onTree}
 use Rattle.page_tree.specs.OffPages.{Left, stepEntry, over, sweep, unlessEmpty, stepBelow, nextDepth, strike, strikeIn, deleteBelow, lower, rooted, offTree}
 use Rattle.page_tree.specs.Numbered.{Numbered, aside, numberedDepth, numberedLeaves, NumberedTree, treeAside, under, insertNumbered, growNumbered, grownNumbered, insertNumberedTree, onNumbered, keptUnder, stepNumbered, deleteNumbered, lowerNumbered, rootedNumbered, offNumbered}
 use Rattle.page_tree.proofs.RowMaps.{parts-map}
+use Rattle.page_tree.proofs.RowLengths.{longestBelow}
 
 -- Walks over a row of things and over what f makes of them, with what g makes of the answers.
 module _ {A B X Y : Type 0} (depth : B → ℕ) (f : A → B) (g : X → Y) (found : List ℕ → ℕ → A → List A → X) (passed : A → X → X) (none : X)
@@ -217,7 +218,28 @@ module _ (E : ℕ) (new new′ : Replacement) where
       (walk-here (depth n) (λ bs τ x xs. insertBelow E new n bs τ x ++ xs) (λ bs τ x xs. insertBelow E new′ n bs τ x ++ xs) (λ x r. x ∷ r) []
       (findBelow n) (AgreeAt new new′) (λ bs τ x xs q. ap (λ r. r ++ xs) (insertBelow-here n bs τ x q)) bs τ page q)
 
-  -- of a tree,
+  -- take as many pages there,
+  pub pagesBelow-here : (n : ℕ) (bs : List ℕ) (τ : ℕ) (x : Node n) → AgreeAt new new′ (findBelow n bs τ x)
+      → pagesBelow E new n bs τ x ≡ pagesBelow E new′ n bs τ x
+  pagesBelow-here zero bs τ x q = refl
+  pagesBelow-here (suc n) bs τ page q =
+      ap₂ (λ (k l : ℕ). (k - 1) + l) (ap length (insertBelow-here (suc n) bs τ page q))
+      (walk-here (depth n) (λ bs τ x xs. pagesBelow E new n bs τ x) (λ bs τ x xs. pagesBelow E new′ n bs τ x) (λ x r. r) 0 (findBelow n) (AgreeAt new new′)
+      (λ bs τ x xs q. pagesBelow-here n bs τ x q) bs τ page q)
+
+  -- make rows as long before they are cut,
+  pub longestBelow-here : (n : ℕ) (bs : List ℕ) (τ : ℕ) (x : Node n) → AgreeAt new new′ (findBelow n bs τ x)
+      → longestBelow E new n bs τ x ≡ longestBelow E new′ n bs τ x
+  longestBelow-here zero bs τ x q = refl
+  longestBelow-here (suc n) bs τ page q =
+      ap₂ max
+      (ap length
+      (walk-here (depth n) (λ bs τ x xs. insertBelow E new n bs τ x ++ xs) (λ bs τ x xs. insertBelow E new′ n bs τ x ++ xs) (λ x r. x ∷ r) []
+      (findBelow n) (AgreeAt new new′) (λ bs τ x xs q. ap (λ r. r ++ xs) (insertBelow-here n bs τ x q)) bs τ page q))
+      (walk-here (depth n) (λ bs τ x xs. longestBelow E new n bs τ x) (λ bs τ x xs. longestBelow E new′ n bs τ x) (λ x r. r) 0 (findBelow n) (AgreeAt new new′)
+      (λ bs τ x xs q. longestBelow-here n bs τ x q) bs τ page q)
+
+  -- the same of a tree,
   pub insertTree-here : (bs : List ℕ) (t : Tree) → AgreeAt new new′ (findIn bs t) → insertTree E new bs t ≡ insertTree E new′ bs t
   insertTree-here bs t q = ap (grown E (t .0)) (insertBelow-here (suc (t .0)) bs 0 (t .1) q)
 

@@ -1,19 +1,16 @@
 -- Every history of format, on, off, find, list and check calls answers as the ordered map does, and leaves tables that agree with it. Assumes nothing.
 use mathlib.Core.Path.{_≡_, refl, ap, ap₂, sym, _∙_}
-use mathlib.Core.Bool.{true}
-use mathlib.Core.List.{List, [], _∷_}
-use Prim.Native.Nat.{ℕ}
-use lib.ListN.{length, getD}
+use mathlib.Core.List.{List, _∷_}
+use lib.ListN.{length}
 use Rattle.leaf_list.specs.Herd.{Herd}
 use Rattle.index_table.proofs.SoundTables.{herd-held}
-use Rattle.table_calls.specs.declared.answer.Answer.{Answer}
-use Rattle.tag_index.specs.Histories.{Tables, Call, Reply, OrderedMap, Sizes, sizesOf, Feed, formats, keyWith, emptyMap, mapAfter, mapReplies, mapBehind}
+use Rattle.tag_index.specs.Histories.{Tables, Call, Reply, OrderedMap, Sizes, sizesOf, Feed, keyWith, emptyMap, mapAfter, mapReplies, mapBehind}
 use Rattle.tag_index.specs.Claims.{byteAndKey, Agrees, Follows}
 use Rattle.tag_index.proofs.EmptySound.{format-sound, format-lengths, format-width, format-empties}
 use Rattle.tag_index.proofs.MapSteps.{Holds, Step, formats-step, ons-step, offs-step, finds-step, lists-step, checks-step}
 use Rattle.tag_index.proofs.ReachedPages.{reached-in-use, other-zero}
 use Rattle.tag_index.proofs.RecordKeys.{record-says}
-use Rattle.tag_index.proofs.Runs.{Formats, Run, end, formats as formats-run, ons, offs, finds, lists, checks, formats-does}
+use Rattle.tag_index.proofs.Runs.{Run, History, end, formats as formats-run, ons, offs, finds, lists, checks, formats-does}
 
 -- Tables that hold a map agree with it.
 pub agrees : {z : Sizes} {m : OrderedMap} {t : Tables} → Holds z m t → Agrees m t
@@ -51,22 +48,20 @@ runs h (finds s run) = before (finds-step h s) (runs h run)
 runs h (lists s run) = before (lists-step h s) (runs h run)
 runs h (checks s run) = before (checks-step h s) (runs h run)
 
--- "It starts from what a done format leaves, whatever the tables held before."
-module _ {w e p : ℕ} {t u v : Tables} {a : Answer} {calls : List Call} {feeds : List Feed} {replies : List Reply}
-    (begun : Formats w e p t u a) (done : formats (sizesOf t) w e p ≡ true) (run : Run u calls feeds replies v) where
-  pub history-runs : Runs (sizesOf t) (emptyMap w) calls feeds replies v
+module _ {calls : List Call} {feeds : List Feed} {replies : List Reply} {left : Tables} (h : History calls feeds replies left) where
+  pub history-runs : Runs (sizesOf (h .given)) (emptyMap (h .width)) calls feeds replies left
   history-runs =
-      let does = formats-does begun in
-      let long = format-lengths does done in
+      let does = formats-does (h .begun) in
+      let long = format-lengths does (h .done) in
       runs
       (record {
         sizes = λ i. record { table = long .0 i; keys = long .1 i; used = long .2 i };
-        sound = format-sound does done;
-        width = format-width does done;
-        herd = format-empties does done;
+        sound = format-sound does (h .done);
+        width = format-width does (h .done);
+        herd = format-empties does (h .done);
       })
-      run
+      (h .run)
 
   -- "After every history, each answer and each list slice is the map's", and the tables agree with it.
-  pub every-history : Follows (sizesOf t) (emptyMap w) calls feeds replies v
+  pub every-history : Follows (sizesOf (h .given)) (emptyMap (h .width)) calls feeds replies left
   every-history = record { answers = history-runs .replies; tables = agrees (history-runs .holds) }

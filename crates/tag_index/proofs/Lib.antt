@@ -7,3 +7,4 @@ pub mod Runs
 pub mod ReachedPages
 pub mod RecordKeys
 pub mod MapSteps
+pub mod Corollaries

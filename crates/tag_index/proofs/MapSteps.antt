@@ -1,27 +1,25 @@
 -- One call on tables that hold a map: it answers as the map does, and leaves tables that hold the map behind it. Assumes nothing.
 use mathlib.Core.Path.{_≡_, refl, ap, ap₂, sym, subst, _∙_}
-use mathlib.Core.Logic.{_≢_}
 use mathlib.Core.Bool.{Bool, true, false, cond}
 use mathlib.Core.Option.{Option, none, some}
-use mathlib.Core.List.{List, [], _∷_}
-use Prim.Native.Nat.{ℕ, zero, suc}
+use mathlib.Core.List.{List}
+use Prim.Native.Nat.{ℕ}
 use native.Mathlib.Omega.{arith}
 use lib.Dec.{leb, eqb}
 use lib.ListN.{length, set, length-set}
 use borrow.Author.Tests.{eqb-true, eqb-false, leb-false}
 use Rattle.leaf_list.specs.Herd.{Herd, lookup, add, remove}
 use Rattle.leaf_list.specs.Register.{inUse, herdOf}
-use Rattle.index_table.specs.Layout.{layoutOf, pageSize}
-use Rattle.index_table.specs.Header.{widthOf, entriesOf, pagesOf, rootOf, HeaderFrom}
+use Rattle.index_table.specs.Header.{widthOf, rootOf, HeaderFrom}
 use Rattle.index_table.specs.Soundness.{Sound}
 use Rattle.table_calls.specs.declared.answer.Answer.{Answer}
 use Rattle.table_calls.specs.Answers.{plain}
-use Rattle.table_change.specs.Changes.{isSome, isHeld, onRow, onRowOf, OnDone, offRow, offRowOf, OffDone, rowEight, rowSeven}
+use Rattle.table_change.specs.Changes.{isSome, isHeld, onRow, onRowOf, offRowOf, rowEight, rowSeven}
 use Rattle.table_change.proofs.SoundAfter.{herd-on, herd-off}
 use Rattle.tag_index.specs.Format.{FormatDoes}
 use Rattle.tag_index.specs.Changing.{OnDoes, OffDoes, rowBehind}
 use Rattle.tag_index.specs.Reading.{Judged, tooWide}
-use Rattle.tag_index.specs.Histories.{Tables, Call, format, on, off, find, list, check, Reply, answered, sliced, said, OrderedMap, Sizes, sizesOf, Feed, feedOf, formats, keyWith, emptyMap, mapOnRow, mapOffRow, changed, mapReply, mapAfter}
+use Rattle.tag_index.specs.Histories.{Tables, Call, format, on, off, find, list, check, Reply, answered, sliced, said, OrderedMap, Sizes, sizesOf, Feed, feedOf, formats, emptyMap, mapOnRow, mapOffRow, mapReply, mapAfter}
 use Rattle.tag_index.proofs.EmptySound.{format-sound, format-lengths, format-width, format-empties}
 use Rattle.tag_index.proofs.RecordKeys.{record-taken}
 use Rattle.tag_index.proofs.Runs.{Formats, Ons, Offs, Finds, Lists, Checks, formats-does, ons-does, offs-does, finds-does, lists-does, checks-does}

@@ -1,10 +1,9 @@
 -- Reached pages of sound tables: the pages that are met from the root down (01, "Every reached page is in use, and every other is all zero"). Assumes nothing.
-use mathlib.Core.Path.{_≡_, refl, sym, ap, subst, _∙_}
+use mathlib.Core.Path.{_≡_, refl, subst}
 use mathlib.Core.Logic.{_⊎_, inl, inr}
 use mathlib.Core.List.{List, [], _∷_}
 use Prim.Native.Nat.{ℕ, zero, suc, _≤_, _<_}
 use native.Mathlib.Omega.{arith}
-use lib.ListN.{length}
 use Rattle.page_tree.specs.Rows.{All}
 use Rattle.index_table.specs.Bytes.{AllZero}
 use Rattle.index_table.specs.Layout.{Layout, Ref, layoutOf, countOf}
@@ -13,7 +12,7 @@ use Rattle.index_table.specs.Pages.{Pages, pagesAt, met, metAll, same, rootRef}
 use Rattle.index_table.specs.Soundness.{SoundBelow, Sound, rootLevel}
 use Rattle.index_table.proofs.PageCounts.{same-cases}
 use Rattle.index_table.proofs.PageRows.{length-refs}
-use Rattle.tag_index.specs.Claims.{bytesOfPage, entriesOfPage, PointsAt, Reached, root, child, InUse}
+use Rattle.tag_index.specs.Claims.{bytesOfPage, PointsAt, Reached, root, child, InUse}
 
 module _ {index keys used : List ℕ} (s : Sound index keys used) where
   abbrev L : Layout

@@ -2,18 +2,18 @@
 use mathlib.Core.Path.{_≡_, refl, ap, sym, _∙_}
 use mathlib.Core.Logic.{_⊎_, inl, inr}
 use mathlib.Core.Bool.{Bool, true, false, cond, true≢false}
-use mathlib.Core.Option.{Option, none, some}
+use mathlib.Core.Option.{none, some}
 use mathlib.Core.List.{List, [], _∷_}
-use Prim.Native.Nat.{ℕ, _≤_, _<_}
+use Prim.Native.Nat.{ℕ, _≤_}
 use native.Mathlib.Omega.{arith}
 use lib.Dec.{eqb, ltb}
 use lib.ListN.{length, getD, List·getD-eq-default}
-use borrow.Author.Tests.{eqb-true, eqb-false, eq-eqb, ltb-true, ltb-false}
+use borrow.Author.Tests.{eqb-true, eqb-false, ltb-true, ltb-false}
 use Rattle.leaf_list.specs.Herd.{Herd, KeysOf, recordsOf}
 use Rattle.leaf_list.specs.Register.{keyAt, inUse, herdOf}
 use Rattle.leaf_list.proofs.FittingHerds.{AllInUse}
 use Rattle.leaf_list.proofs.RegisterHerd.{Holds, herdOf-is}
-use Rattle.index_table.specs.Soundness.{SoundRecord, Sound}
+use Rattle.index_table.specs.Soundness.{Sound}
 use Rattle.table_change.specs.Changes.{isSome}
 use Rattle.tag_index.specs.Histories.{keyWith}
 use Rattle.tag_index.specs.Claims.{byteAndKey}

@@ -11,7 +11,7 @@ use Rattle.table_calls.specs.declared.answer.Answer.{Answer}
 use Rattle.tag_index.specs.Format.{FormatDoes}
 use Rattle.tag_index.specs.Changing.{OnDoes, OffDoes}
 use Rattle.tag_index.specs.Reading.{FindDoes, ListDoes}
-use Rattle.tag_index.specs.Histories.{Tables, Call, format, on, off, find, list, check, Reply, answered, sliced, said, Feed, feedOf}
+use Rattle.tag_index.specs.Histories.{Tables, Call, format, on, off, find, list, check, Reply, answered, sliced, said, OrderedMap, sizesOf, Feed, feedOf, formats as fits, emptyMap, mapBehind}
 use Rattle.tag_index.proofs.format.format.Reads as format-reads
 use Rattle.tag_index.proofs.read.find.Reads as find-reads
 use Rattle.tag_index.proofs.read.list.Reads as list-reads
@@ -73,6 +73,22 @@ pub data Run : Tables → List Call → List Feed → List Reply → Tables → 
       → Run t (list a b out ∷ cs) (feedOf t (list a b out) ∷ fs) (sliced r out₁ ∷ rs) v
   checks : {t v : Tables} {r : Bool} {cs : List Call} {fs : List Feed} {rs : List Reply} → Checks t r → Run t cs fs rs v
       → Run t (check ∷ cs) (feedOf t check ∷ fs) (said r ∷ rs) v
+
+-- A history: "It starts from what a done format leaves, whatever the tables held before."
+pub record History (calls : List Call) (feeds : List Feed) (replies : List Reply) (left : Tables) : Type 0 where
+  pub width : ℕ
+  pub entries : ℕ
+  pub pages : ℕ
+  pub given : Tables
+  pub made : Tables
+  pub answer : Answer
+  pub begun : Formats width entries pages given made answer
+  pub done : fits (sizesOf given) width entries pages ≡ true
+  pub run : Run made calls feeds replies left
+
+-- The map behind a history.
+abbrev pub mapOf : {calls : List Call} {feeds : List Feed} {replies : List Reply} {left : Tables} → History calls feeds replies left → OrderedMap
+mapOf {calls} {feeds} h = mapBehind (sizesOf (h .given)) (emptyMap (h .width)) calls feeds
 
 -- The contracts in words of the tables.
 module _ {t : Tables} where

@@ -47,7 +47,8 @@ pub record Sizes : Type 0 where
 abbrev pub sizesOf : Tables → Sizes
 sizesOf t = record { table = length (t .index); keys = length (t .keys); used = length (t .used) }
 
--- "and, of an on .., whether row 8 and whether row 7 applies to the tables it gets. It sees no answer and no page."
+-- "and, of an on that rows 2 to 5 let pass, whether row 8 and whether row 7 applies to the tables it gets. It sees no answer and no page."
+-- (Rows 2 to 5 come first in onRow: of an on that they decline, nothing here is looked at.)
 pub record Feed : Type 0 where
   pub eight : Bool
   pub seven : Bool
