@@ -8,3 +8,4 @@ pub mod ReachedPages
 pub mod RecordKeys
 pub mod MapSteps
 pub mod Corollaries
+pub mod MapExamples

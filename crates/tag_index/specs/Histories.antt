@@ -13,6 +13,7 @@ use Rattle.table_change.specs.Changes.{isSome, isHeld, rowEight, rowSeven, onRo
 use Rattle.tag_index.specs.Format.{formatFits}
 use Rattle.tag_index.specs.Reading.{tooWide, firstRow, behind, keptBehind}
 
+-- One index table and one register.
 pub record Tables : Type 0 where
   pub index : List ℕ
   pub keys : List ℕ
@@ -44,6 +45,7 @@ pub record Sizes : Type 0 where
   pub keys : ℕ
   pub used : ℕ
 
+-- The lengths of tables.
 abbrev pub sizesOf : Tables → Sizes
 sizesOf t = record { table = length (t .index); keys = length (t .keys); used = length (t .used) }
 
@@ -53,9 +55,11 @@ pub record Feed : Type 0 where
   pub eight : Bool
   pub seven : Bool
 
+-- Of any other call, nothing.
 abbrev pub nothingFed : Feed
 nothingFed = record { eight = false; seven = false }
 
+-- What the map is fed of a call on the tables that it gets.
 abbrev pub feedOf : Tables → Call → Feed
 feedOf t (format w e p) = nothingFed
 feedOf t (on key r) = record { eight = rowEight (t .index) (t .keys) key r; seven = rowSeven (t .index) (t .keys) key r }
@@ -66,6 +70,7 @@ feedOf t check = nothingFed
 
 -- ---- the rows that decline a call, by the map
 
+-- "9 by its row": whether it lets a format pass.
 abbrev pub formats : Sizes → ℕ → ℕ → ℕ → Bool
 formats z w e p = formatFits w e p (z .table) (z .keys) (z .used)
 
@@ -114,11 +119,13 @@ mapAfter z f m check = m
 
 -- ---- all calls of a history, one after the other, with what the map is fed of each
 
+-- What the map answers to each.
 abbrev pub mapReplies : Sizes → OrderedMap → List Call → List Feed → List Reply
 mapReplies z m [] fs = []
 mapReplies z m (c ∷ cs) [] = []
 mapReplies z m (c ∷ cs) (f ∷ fs) = mapReply z f m c ∷ mapReplies z (mapAfter z f m c) cs fs
 
+-- The map behind all of them.
 abbrev pub mapBehind : Sizes → OrderedMap → List Call → List Feed → OrderedMap
 mapBehind z m [] fs = m
 mapBehind z m (c ∷ cs) [] = m
