@@ -1,0 +1,3 @@
+pub mod PartDepths
+pub mod CountedPages
+pub mod SplicedRows
