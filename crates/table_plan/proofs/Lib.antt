@@ -1,3 +1,6 @@
 pub mod PartDepths
 pub mod CountedPages
 pub mod SplicedRows
+pub mod SameDepths
+pub mod GrowingRoots
+pub mod PlannedPages

@@ -25,7 +25,7 @@ last-any σ τ [] h = absurd (omega arith)
 last-any σ τ (x ∷ xs) h = refl
 
 -- It is the depth of the last entry.
-last-at : (τ : ℕ) (xs : List Pair) (i : ℕ) → suc i ≡ length xs → lastDepth depthOf τ xs ≡ getD xs i (0, 0) .0
+pub last-at : (τ : ℕ) (xs : List Pair) (i : ℕ) → suc i ≡ length xs → lastDepth depthOf τ xs ≡ getD xs i (0, 0) .0
 last-at τ [] i h = absurd (omega arith)
 last-at τ (x ∷ []) zero h = refl
 last-at τ (x ∷ []) (suc i) h = absurd (omega arith)
