@@ -4,3 +4,4 @@ pub mod SplicedRows
 pub mod SameDepths
 pub mod GrowingRoots
 pub mod PlannedPages
+pub mod InsertionPlans

@@ -39,7 +39,7 @@ module _ {e : ℕ} {row : Row} {cuts : Cuts} (full : Full (row .depths) (row .po
       let xss = parts depthOf e (rowOf row) in
       let p = part-at k l in
       let last : d ≡ lastDepth depthOf 0 (getD xss k []) =
-              sym (part-last row full (startOf xss k) (getD (cuts .ends) k 0) 0 (p .some) (end-inside k l .1)) ∙ ap (lastDepth depthOf 0) (p .entries) in
+      sym (part-last row full (startOf xss k) (getD (cuts .ends) k 0) 0 (p .some) (end-inside k l .1)) ∙ ap (lastDepth depthOf 0) (p .entries) in
       record {
         full = full-set ds ps k d 0 (g .full);
         depths =

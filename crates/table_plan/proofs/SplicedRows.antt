@@ -74,11 +74,11 @@ module _ {b : List ℕ} {e page at below : ℕ} {row : Row} (full : Full (row .d
         → Holds r (new .count + 1) (rowOf new ++ (d, 0) ∷ []) → PartsPost e spliced below (record { row = r; fresh = below })
     one-part short new r none d is made =
         let one : parts depthOf e spliced ≡ spliced ∷ [] =
-                cut-fits depthOf e (length spliced) spliced (omega (arith, length-spliced at (rowOf row) refs (pre .inside), counted, entries-read, pre .inside)) in
+        cut-fits depthOf e (length spliced) spliced (omega (arith, length-spliced at (rowOf row) refs (pre .inside), counted, entries-read, pre .inside)) in
         let end : suc (n - 1) ≡ length refs = omega (arith, entries-read, pre .inside) in
         let last : d ≡ lastDepth depthOf 0 spliced =
-                is ∙ ap (λ (x : Ref). x .0) (read-entry (layoutOf e) b page (n - 1) (omega arith)) ∙ sym (last-at 0 refs (n - 1) end)
-                ∙ sym (last-spliced at (rowOf row) refs (pre .inside) 0 (omega (arith, counted, pre .some)) (pre .last)) in
+        is ∙ ap (λ (x : Ref). x .0) (read-entry (layoutOf e) b page (n - 1) (omega arith)) ∙ sym (last-at 0 refs (n - 1) end)
+        ∙ sym (last-spliced at (rowOf row) refs (pre .inside) 0 (omega (arith, counted, pre .some)) (pre .last)) in
         record {
           count = made .count ∙ omega (arith, none .count, ap length one);
           depths = ap (map depthOf) (made .entries ∙ ap (λ (xs : List Pair). xs ++ (d, 0) ∷ []) (none .entries)) ∙ ap (λ (m : ℕ). m ∷ []) last
