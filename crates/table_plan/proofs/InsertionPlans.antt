@@ -1,6 +1,6 @@
 -- The dry run of a whole insertion: from the root down, and the new roots above it. Assumes nothing.
-use mathlib.Core.Path.{_≡_, refl, sym, ap, subst, _∙_}
-use mathlib.Core.List.{List, map}
+use mathlib.Core.Path.{_≡_, sym, ap, subst, _∙_}
+use mathlib.Core.List.{List}
 use Prim.Native.Nat.{ℕ, suc, _+_, _≤_}
 use native.Mathlib.Omega.{arith}
 use Rattle.leaf_list.specs.Keys.{bits}
@@ -10,7 +10,7 @@ use Rattle.page_tree.specs.Row.{depthOf, rowOf}
 use Rattle.page_tree.specs.Rows.{Closed}
 use Rattle.page_tree.specs.Tree.{Node, Tree, pagesOf}
 use Rattle.page_tree.specs.Finding.{findBelow}
-use Rattle.page_tree.specs.OnPages.{insertBelow, insertTree, grown}
+use Rattle.page_tree.specs.OnPages.{insertTree, grown}
 use Rattle.page_tree.specs.declared.Row.{Row}
 use Rattle.page_tree.proofs.InsertionPages.{insertBelow-pages}
 use Rattle.index_table.specs.Layout.{layoutOf}

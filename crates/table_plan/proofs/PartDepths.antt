@@ -1,12 +1,12 @@
 -- The last depths of the parts of a row, gathered part by part. Assumes nothing.
 use mathlib.Core.Path.{_≡_, refl, sym, ap, ap₂, _∙_}
 use mathlib.Core.List.{List, [], _∷_, _++_, map, map-append, zip}
-use Prim.Native.Nat.{ℕ, suc, _+_, _-_, _≤_, _<_}
+use Prim.Native.Nat.{ℕ, _+_, _-_, _≤_, _<_}
 use native.Mathlib.Omega.{arith}
 use native.Mathlib.Numerals.{add-one}
-use lib.ListN.{length, getD, set, take}
+use lib.ListN.{getD, set, take}
 use lib.Seq.{take-suc, take-length}
-use Rattle.page_tree.specs.Row.{Pair, depthOf, rowOf, CutsPost}
+use Rattle.page_tree.specs.Row.{depthOf, rowOf, CutsPost}
 use Rattle.page_tree.specs.Rows.{lastDepth}
 use Rattle.page_tree.specs.Cutting.{parts}
 use Rattle.page_tree.specs.declared.Row.{Row}

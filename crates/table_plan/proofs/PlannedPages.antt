@@ -2,7 +2,7 @@
 use mathlib.Core.Path.{_≡_, refl, sym, ap, ap₂, subst, _∙_}
 use mathlib.Core.Logic.{_⊎_, inl, inr}
 use mathlib.Core.Bool.{Bool, true, false, cond}
-use mathlib.Core.List.{List, [], _∷_, _++_, map, map-append, foldr, append-assoc}
+use mathlib.Core.List.{List, [], _∷_, _++_, map, map-append, append-assoc}
 use Prim.Native.Nat.{ℕ, zero, suc, _+_, _*_, _-_, _≤_, _<_}
 use native.Mathlib.Omega.{arith}
 use lib.Dec.{leb}
@@ -12,16 +12,15 @@ use Rattle.leaf_list.specs.Keys.{Key, bits}
 use Rattle.leaf_list.specs.Entries.{Entry, entry, depthOf as entryDepth}
 use Rattle.leaf_list.specs.Search.{positions}
 use Rattle.leaf_list.proofs.Lists.{all-at}
-use Rattle.leaf_list.proofs.Positions.{Beyond, Rising, positions-beyond, positions-rise}
-use Rattle.page_tree.specs.Row.{Pair, depthOf, places, rowOf}
+use Rattle.leaf_list.proofs.Positions.{Rising, positions-beyond, positions-rise}
+use Rattle.page_tree.specs.Row.{depthOf, places, rowOf}
 use Rattle.page_tree.specs.Rows.{All, Closed, lastDepth}
 use Rattle.page_tree.specs.Tree.{Node, depth, Sound}
-use Rattle.page_tree.specs.Walk.{walk}
 use Rattle.page_tree.specs.Cutting.{parts}
 use Rattle.page_tree.specs.Finding.{Found, findBelow}
 use Rattle.page_tree.specs.OnPages.{Replacement, replaceIn, insertBelow, pagesBelow}
 use Rattle.page_tree.specs.declared.Row.{Row}
-use Rattle.page_tree.proofs.ListLaws.{all-left, all-right, all-unit, append-foldr}
+use Rattle.page_tree.proofs.ListLaws.{all-left, all-right, all-unit}
 use Rattle.page_tree.proofs.ClosedRows.{closed-last, closed-nonempty}
 use Rattle.page_tree.proofs.RowMaps.{closed-map, lastDepth-map, positionsAfter-map, passes-map}
 use Rattle.page_tree.proofs.WalkLaws.{first-beyond}
@@ -34,11 +33,11 @@ use Rattle.index_table.specs.Soundness.{SoundBelow}
 use Rattle.index_table.specs.Storing.{splicedAt}
 use Rattle.index_table.proofs.SoundNodes.{sound-depth, sound-depths, sound-node}
 use Rattle.table_search.specs.declared.Spot.{Spot}
-use Rattle.table_search.specs.Places.{later, leftFrom, Stopped, DescendPre}
+use Rattle.table_search.specs.Places.{later, leftFrom, Stopped}
 use Rattle.table_search.proofs.Stops.{read-entry}
 use Rattle.table_search.proofs.Descents.{descend-within, descend-walk, descend-step, descend-child}
 use Rattle.table_plan.specs.declared.Plan.{Plan}
-use Rattle.table_plan.specs.Plans.{newLeaves, PartsPre, PartsPost, PlanPre, PlanPost, pageParts, freshPages}
+use Rattle.table_plan.specs.Plans.{newLeaves, PartsPre, PartsPost, PlanPre, PlanPost, freshPages}
 use Rattle.table_plan.proofs.SameDepths.{same-last, same-lasts, same-parts}
 use Rattle.table_plan.proofs.SplicedRows.{last-at}
 

@@ -6,10 +6,6 @@ use native.Mathlib.Omega.{arith}
 use Rattle.table_plan.proofs.PartDepths.{Gathered, end-inside, gathered-more, gathered-all}
 use Rattle.table_plan.proofs.last_depths.Statement.{statement}
 use Rattle.table_plan.proofs.last_depths.Tie as tie
-use Rattle.table_plan.proofs.last_depths.Reads as reads
-use Rattle.table_plan.proofs.last_depths.Lts as lts
-use Rattle.page_tree.proofs.Row.cuts.Reads as cuts-reads
-use Rattle.page_tree.proofs.Row.new.Reads as new-reads
 
 abbrev Inv-loop : tie.InvT-loop
 Inv-loop e row cuts n r₀ k₀ r k = (k ≤ n) × Gathered e row k (r .depths) (r .pointers)

@@ -10,9 +10,6 @@ use Rattle.index_table.proofs.PageBytes.{within-table}
 use Rattle.table_plan.proofs.CountedPages.{used-none, used-more, used-same, used-all}
 use Rattle.table_plan.proofs.pages_in_use.Statement.{statement}
 use Rattle.table_plan.proofs.pages_in_use.Tie as tie
-use Rattle.table_plan.proofs.pages_in_use.Reads as reads
-use Rattle.table_plan.proofs.pages_in_use.Lts as lts
-use Rattle.index_table.proofs.layout.count.Reads as count-reads
 
 abbrev Inv-loop : tie.InvT-loop
 Inv-loop index e pages used₀ i₀ used i = (i ≤ pages) × (used ≤ i) × (used ≡ usedPages i (pagesAt (layoutOf e) index))
