@@ -64,6 +64,7 @@ module _ (b : List ℕ) (e n page w key position trail : ℕ) (news : Row) where
   abbrev pub freshPages : ℕ
   freshPages = pagesBelow e (newLeaves news) (suc n) (leftFrom w key position) trail (nodeAt 65535 (suc n) (pagesAt (layoutOf e) b) (0, page))
 
+-- The plan of the page: the depths of what will stand in its place, 1 to 65 parts, and the pages more.
 pub record PlanPost (b : List ℕ) (e n page w key position trail : ℕ) (news : Row) (r : Plan) : Type 0 where
   pub count : r .row .count ≡ length (pageParts b e n page w key position trail news)
   pub depths : map depthOf (rowOf (r .row)) ≡ map (depth (suc n)) (pageParts b e n page w key position trail news)
