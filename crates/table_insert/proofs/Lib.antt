@@ -1,0 +1,2 @@
+pub mod PlacedRows
+pub mod PlacedParts
