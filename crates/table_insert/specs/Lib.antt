@@ -1,1 +1,4 @@
 pub mod Placing
+pub mod Inserting
+pub mod NewRoots
+pub mod Putting

@@ -6,10 +6,21 @@ ghost use Rattle.index_table.specs.Layout.{layoutOf, rowPage, store};
 ghost use Rattle.index_table.specs.Pages.{pagesAt};
 ghost use Rattle.page_tree.specs.Row.{partOf};
 ghost use Rattle.table_insert.specs.Placing.{PlacePre, PlacePost, PartPre, PartPost};
+ghost use Rattle.table_search.specs.Places.{leftFrom};
+ghost use Prim.Native.Nat.{suc};
+ghost use Rattle.table_insert.specs.Inserting.{newLeaves, pageRef, Replaced, InsertPre};
+ghost use Rattle.table_insert.specs.NewRoots.{GrowPre, GrowPost};
+ghost use Rattle.table_insert.specs.Putting.{PutPre, PutPost};
+ghost use Rattle.page_tree.specs.Row.{rowOf};
 use index_table::layout::PageNo;
+use index_table::layout::Root;
+use index_table::layout::child;
+use index_table::rows::splice_page;
 use index_table::write::find_free;
 use index_table::write::store_page;
 use page_tree::Row;
+use table_search::next_position;
+use table_search::seek;
 
 // A part of a row stored in a free page.
 fn place_part(
@@ -61,4 +72,78 @@ pub fn place_parts(index: &mut [u8], e: u8, pages: u16, level: u8, own: PageNo, 
     }
     r.count = k;
     r
+}
+
+// New entries in the place of the entry that figure 6 finds below a page of a level, and what then stands in the place of the page.
+pub fn insert(
+    index: &mut [u8],
+    e: u8,
+    pages: u16,
+    level: u8,
+    page: PageNo,
+    w: u64,
+    key: u64,
+    position: u64,
+    trail: u64,
+    news: Row,
+) -> Row
+    requires { ⌜ InsertPre (now index) e pages level (page .0) w key position trail news ⌝ }
+    ensures { λ r. ⌜ Replaced e pages (newLeaves news) (suc level) (leftFrom w key position) trail (now (index .entry)) (pageRef e (now (index .entry)) (page .0)) (now (index .exit)) r ⌝ }
+{
+    let s = seek(index, e, page, w, key, position, trail);
+    let at = s.at;
+    if level == 0 {
+        let row = splice_page(index, e, page, at, news);
+        return place_parts(index, e, pages, level, page, row);
+    }
+    let below = child(index, e, page, at);
+    let parts = insert(
+        index,
+        e,
+        pages,
+        level - 1,
+        below,
+        w,
+        key,
+        s.position,
+        s.trail,
+        news,
+    );
+    let row = splice_page(index, e, page, at, parts);
+    place_parts(index, e, pages, level, page, row)
+}
+
+// The root above the parts of a page of a level: one part is the root; else the row of the parts stands one level up, and so on.
+pub fn grow(index: &mut [u8], e: u8, pages: u16, level: u8, parts: Row) -> Root
+    requires { ⌜ GrowPre e pages level (now index) parts ⌝ }
+    ensures { λ r. ⌜ GrowPost e pages level (now (index .entry)) (rowOf parts) (now (index .exit)) r ⌝ }
+{
+    if parts.count <= 1 {
+        return Root {
+            page: PageNo(parts.pointers[0] as u16),
+            level,
+        };
+    }
+    let own = find_free(index, e, pages);
+    let row = place_parts(index, e, pages, level + 1, own, parts);
+    grow(index, e, pages, level + 1, row)
+}
+
+// New entries in the place of the entry that figure 6 finds for a key below the root; the root of the tree with them.
+pub fn put_in(
+    index: &mut [u8],
+    e: u8,
+    pages: u16,
+    level: u8,
+    root: PageNo,
+    w: u64,
+    key: u64,
+    news: Row,
+) -> Root
+    requires { ⌜ PutPre (now index) e pages level (root .0) w key news ⌝ }
+    ensures { λ r. ⌜ PutPost (now (index .entry)) e pages level (root .0) w key news (now (index .exit)) r ⌝ }
+{
+    let position = next_position(w, key, 0);
+    let parts = insert(index, e, pages, level, root, w, key, position, 0, news);
+    grow(index, e, pages, level, parts)
 }
