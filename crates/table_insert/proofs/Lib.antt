@@ -6,3 +6,4 @@ pub mod NumberedGrowth
 pub mod FoundPlaces
 pub mod InsertSteps
 pub mod Insertions
+pub mod RootSteps

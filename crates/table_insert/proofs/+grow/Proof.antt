@@ -1,3 +1,8 @@
+-- One part is the root; else the row stands one level up, with fewer parts. Assumes nothing.
+use native.Mathlib.Omega.{arith}
+use native.Mathlib.Numerals.{add-one}
+use Rattle.page_tree.proofs.RowLaws.{length-row}
+use Rattle.table_insert.proofs.RootSteps.{root-fits, root-alone, root-free, root-level, root-place, up-fewer, up-again, up-done}
 use borrow.Author.Needs.{needs}
 use Prim.Native.Nat.{ℕ, _<_}
 use borrow.Fn.Kinds.{In}
@@ -11,7 +16,7 @@ use Rattle.table_insert.proofs.+grow.{statement}
 use Rattle.table_insert.proofs.+grow.Tie.{close}
 
 abbrev μ-grow : Measures 1 grow-kinds.ps ℕ
-μ-grow κs a = ?
+μ-grow κs a = a .1 .1 .1 .1 .0 .count
 
 abbrev grow-at : ℕ → In 1 grow-kinds.ps
 grow-at t = and 1 grow-kinds.ps (is 1 grow-kinds.ps μ-grow t) grow.Pre
@@ -19,7 +24,6 @@ grow-at t = and 1 grow-kinds.ps (is 1 grow-kinds.ps μ-grow t) grow.Pre
 abbrev grow-below : ℕ → In 1 grow-kinds.ps
 grow-below t = and 1 grow-kinds.ps (falls 1 grow-kinds.ps _<_ μ-grow t) grow.Pre
 
--- src/lib.rt:123:26
 grow-element-copy-out-t13 : (t : ℕ) → grow-lts.Need-element-copy-out-t13 (
   find-free-reads.Asked,
   find-free-reads.Learnt,
@@ -30,7 +34,6 @@ grow-element-copy-out-t13 : (t : ℕ) → grow-lts.Need-element-copy-out-t13 (
 ) (grow-at t) grow.Post
 grow-element-copy-out-t13 t c = search needs
 
--- src/lib.rt:123:26
 grow-cast-t14 : (t : ℕ) → grow-lts.Need-cast-t14 (
   find-free-reads.Asked,
   find-free-reads.Learnt,
@@ -39,9 +42,9 @@ grow-cast-t14 : (t : ℕ) → grow-lts.Need-cast-t14 (
   grow-below t,
   grow.Post,
 ) (grow-at t) grow.Post
-grow-cast-t14 t c = search needs
+grow-cast-t14 t c =
+    omega (arith, root-fits (c .before .before .before .pre .1) (search needs, search needs) (c .before .if1 .taken))
 
--- src/lib.rt:122:9
 grow-returns : (t : ℕ) → grow-lts.Need-returns (
   find-free-reads.Asked,
   find-free-reads.Learnt,
@@ -50,9 +53,9 @@ grow-returns : (t : ℕ) → grow-lts.Need-returns (
   grow-below t,
   grow.Post,
 ) (grow-at t) grow.Post
-grow-returns t c = ?
+grow-returns t c =
+    root-alone (c .before .before .before .pre .1) (search needs, search needs) (c .before .if1 .taken)
 
--- src/lib.rt:127:9
 grow-find-free-requires : (t : ℕ) → grow-lts.Need-find-free-requires (
   find-free-reads.Asked,
   find-free-reads.Learnt,
@@ -61,9 +64,9 @@ grow-find-free-requires : (t : ℕ) → grow-lts.Need-find-free-requires (
   grow-below t,
   grow.Post,
 ) (grow-at t) grow.Post
-grow-find-free-requires t c κs = search needs
+grow-find-free-requires t c κs =
+    root-free (c .before .before .before .pre .1) (c .before .if1 .left)
 
--- src/lib.rt:128:44
 grow-add-place-parts : (t : ℕ) → grow-lts.Need-add-place-parts (
   find-free-reads.Asked,
   find-free-reads.Learnt,
@@ -72,9 +75,9 @@ grow-add-place-parts : (t : ℕ) → grow-lts.Need-add-place-parts (
   grow-below t,
   grow.Post,
 ) (grow-at t) grow.Post
-grow-add-place-parts t c = search needs
+grow-add-place-parts t c =
+    omega (arith, root-level (c .before .before .before .before .before .pre .1) (c .before .before .before .if1 .left))
 
--- src/lib.rt:128:9
 grow-place-parts-requires : (t : ℕ) → grow-lts.Need-place-parts-requires (
   find-free-reads.Asked,
   find-free-reads.Learnt,
@@ -83,9 +86,9 @@ grow-place-parts-requires : (t : ℕ) → grow-lts.Need-place-parts-requires (
   grow-below t,
   grow.Post,
 ) (grow-at t) grow.Post
-grow-place-parts-requires t c κs = search needs
+grow-place-parts-requires t c κs =
+    root-place (c .before .before .before .before .before .pre .1) (c .before .before .before .if1 .left) _ (c .before .find-free .ensures .0)
 
--- src/lib.rt:129:27
 grow-add-grow : (t : ℕ) → grow-lts.Need-add-grow (
   find-free-reads.Asked,
   find-free-reads.Learnt,
@@ -94,9 +97,9 @@ grow-add-grow : (t : ℕ) → grow-lts.Need-add-grow (
   grow-below t,
   grow.Post,
 ) (grow-at t) grow.Post
-grow-add-grow t c = search needs
+grow-add-grow t c =
+    omega (arith, root-level (c .before .before .before .before .before .before .before .before .before .pre .1) (c .before .before .before .before .before .before .before .if1 .left))
 
--- src/lib.rt:129:5
 grow-grow-requires : (t : ℕ) → grow-lts.Need-grow-requires (
   find-free-reads.Asked,
   find-free-reads.Learnt,
@@ -105,9 +108,9 @@ grow-grow-requires : (t : ℕ) → grow-lts.Need-grow-requires (
   grow-below t,
   grow.Post,
 ) (grow-at t) grow.Post
-grow-grow-requires t c κs = search needs
+grow-grow-requires t c κs =
+    (omega (arith, c .before .before .before .before .before .before .before .before .before .pre .0, up-fewer (c .before .before .before .before .before .before .before .before .before .pre .1) (c .before .before .before .before .before .before .before .if1 .left) (c .before .before .before .before .before .find-free .ensures .1) (omega (arith, c .before .before .before .before .before .before .before .before .before .fits)) _ (add-one (c .before .before .before .before .before .before .before .before .before .args .level)) (c .before .before .before .place-parts .ensures) (length-row (c .before .before .before .place-parts .result) (search needs, search needs) (omega (arith, c .before .before .before .place-parts .ensures .few)))), up-again (c .before .before .before .before .before .before .before .before .before .pre .1) (c .before .before .before .before .before .before .before .if1 .left) (c .before .before .before .before .before .find-free .ensures .1) (omega (arith, c .before .before .before .before .before .before .before .before .before .fits)) _ (add-one (c .before .before .before .before .before .before .before .before .before .args .level)) (c .before .before .before .place-parts .ensures) (length-row (c .before .before .before .place-parts .result) (search needs, search needs) (omega (arith, c .before .before .before .place-parts .ensures .few))))
 
--- src/lib.rt:117:1
 grow-same-length : (t : ℕ) → grow-lts.Need-same-length (
   find-free-reads.Asked,
   find-free-reads.Learnt,
@@ -118,7 +121,6 @@ grow-same-length : (t : ℕ) → grow-lts.Need-same-length (
 ) (grow-at t) grow.Post
 grow-same-length t c = search needs
 
--- src/lib.rt:117:1
 grow-returns-2 : (t : ℕ) → grow-lts.Need-returns-2 (
   find-free-reads.Asked,
   find-free-reads.Learnt,
@@ -127,7 +129,8 @@ grow-returns-2 : (t : ℕ) → grow-lts.Need-returns-2 (
   grow-below t,
   grow.Post,
 ) (grow-at t) grow.Post
-grow-returns-2 t c = ?
+grow-returns-2 t c =
+    up-done (c .before .before .before .before .before .before .before .before .before .before .before .before .pre .1) (c .before .before .before .before .before .before .before .before .before .before .if1 .left) (c .before .before .before .before .before .before .before .before .find-free .ensures .1) (omega (arith, c .before .before .before .before .before .before .before .before .before .before .before .before .fits)) _ (add-one (c .before .before .before .before .before .before .before .before .before .before .before .before .args .level)) (c .before .before .before .before .before .before .place-parts .ensures) (length-row (c .before .before .before .before .before .before .place-parts .result) (search needs, search needs) (omega (arith, c .before .before .before .before .before .before .place-parts .ensures .few))) (c .before .before .grow .ensures)
 
 pub +grow-spec : {M : Type 1} → statement M
 +grow-spec = close μ-grow λ t. grow-lts.spec (

@@ -1,6 +1,7 @@
 -- Level by level: the entry found is replaced, the page's row is spliced, and placed again. Assumes nothing.
 use native.Mathlib.Omega.{arith}
 use Rattle.page_tree.proofs.RowLaws.{length-row}
+use Rattle.index_table.specs.Layout.{layoutOf}
 use Rattle.index_table.proofs.PageRows.{refs-fit}
 use Rattle.table_search.proofs.Descents.{descend-within, descend-seek, descend-inside}
 use Rattle.table_insert.proofs.Insertions.{leaf-replaced, child-insert, child-replaced, insert-splice, insert-place, insert-done}
@@ -57,7 +58,7 @@ insert-splice-page-requires : (t : ℕ) → insert-lts.Need-splice-page-requires
 insert-splice-page-requires t c κs =
     let pre = c .before .before .before .before .before .pre .1 in
     let stop = c .before .before .seek .ensures in
-    let fits = refs-fit _ _ _ (λ i. omega (arith, c .before .before .before .before .slice-known .given i)) in
+    let fits = refs-fit (layoutOf (c .before .before .before .before .before .args .e)) (c .before .before .before .before .before .args .index .now) (c .before .before .before .before .before .args .page .0) (λ i. omega (arith, c .before .before .before .before .slice-known .given i)) in
     insert-splice pre fits stop (leaf-replaced _ (c .before .if1 .taken) pre stop)
 
 insert-place-parts-requires : (t : ℕ) → insert-lts.Need-place-parts-requires (
@@ -75,7 +76,7 @@ insert-place-parts-requires : (t : ℕ) → insert-lts.Need-place-parts-requires
 insert-place-parts-requires t c κs =
     let pre = c .before .before .before .before .before .before .before .pre .1 in
     let stop = c .before .before .before .before .seek .ensures in
-    let fits = refs-fit _ _ _ (λ i. omega (arith, c .before .before .before .before .before .before .slice-known .given i)) in
+    let fits = refs-fit (layoutOf (c .before .before .before .before .before .before .before .args .e)) (c .before .before .before .before .before .before .before .args .index .now) (c .before .before .before .before .before .before .before .args .page .0) (λ i. omega (arith, c .before .before .before .before .before .before .slice-known .given i)) in
     insert-place pre fits stop (leaf-replaced _ (c .before .before .before .if1 .taken) pre stop) (c .before .splice-page .ensures)
 
 insert-same-length : (t : ℕ) → insert-lts.Need-same-length (
@@ -107,7 +108,7 @@ insert-returns : (t : ℕ) → insert-lts.Need-returns (
 insert-returns t c =
     let pre = c .before .before .before .before .before .before .before .before .before .before .pre .1 in
     let stop = c .before .before .before .before .before .before .before .seek .ensures in
-    let fits = refs-fit _ _ _ (λ i. omega (arith, c .before .before .before .before .before .before .before .before .before .slice-known .given i)) in
+    let fits = refs-fit (layoutOf (c .before .before .before .before .before .before .before .before .before .before .args .e)) (c .before .before .before .before .before .before .before .before .before .before .args .index .now) (c .before .before .before .before .before .before .before .before .before .before .args .page .0) (λ i. omega (arith, c .before .before .before .before .before .before .before .before .before .slice-known .given i)) in
     insert-done pre fits stop (leaf-replaced _ (c .before .before .before .before .before .before .if1 .taken) pre stop) (c .before .before .before .before .splice-page .ensures) (c .before .before .place-parts .ensures) (search needs) (length-row (c .before .before .place-parts .result) (search needs, search needs) (omega (arith, c .before .before .place-parts .ensures .few)))
 
 insert-child-requires : (t : ℕ) → insert-lts.Need-child-requires (
@@ -154,7 +155,7 @@ insert-insert-requires : (t : ℕ) → insert-lts.Need-insert-requires (
 insert-insert-requires t c κs =
     let pre = c .before .before .before .before .before .before .before .pre .1 in
     let stop = c .before .before .before .before .seek .ensures in
-    let fits = refs-fit _ _ _ (λ i. omega (arith, c .before .before .before .before .before .before .slice-known .given i)) in
+    let fits = refs-fit (layoutOf (c .before .before .before .before .before .before .before .args .e)) (c .before .before .before .before .before .before .before .args .index .now) (c .before .before .before .before .before .before .before .args .page .0) (λ i. omega (arith, c .before .before .before .before .before .before .slice-known .given i)) in
     (omega (arith, c .before .before .before .before .before .before .before .pre .0), child-insert _ (c .before .before .before .if1 .left) pre fits stop _ (c .before .child .ensures))
 
 insert-splice-page-requires-2 : (t : ℕ) → insert-lts.Need-splice-page-requires-2 (
@@ -172,7 +173,7 @@ insert-splice-page-requires-2 : (t : ℕ) → insert-lts.Need-splice-page-requir
 insert-splice-page-requires-2 t c κs =
     let pre = c .before .before .before .before .before .before .before .before .before .before .before .pre .1 in
     let stop = c .before .before .before .before .before .before .before .before .seek .ensures in
-    let fits = refs-fit _ _ _ (λ i. omega (arith, c .before .before .before .before .before .before .before .before .before .before .slice-known .given i)) in
+    let fits = refs-fit (layoutOf (c .before .before .before .before .before .before .before .before .before .before .before .args .e)) (c .before .before .before .before .before .before .before .before .before .before .before .args .index .now) (c .before .before .before .before .before .before .before .before .before .before .before .args .page .0) (λ i. omega (arith, c .before .before .before .before .before .before .before .before .before .before .slice-known .given i)) in
     insert-splice pre fits stop (child-replaced _ (c .before .before .before .before .before .before .before .if1 .left) pre fits stop _ (c .before .before .before .before .before .child .ensures) (c .before .before .before .insert .ensures))
 
 insert-place-parts-requires-2 : (t : ℕ) → insert-lts.Need-place-parts-requires-2 (
@@ -190,7 +191,7 @@ insert-place-parts-requires-2 : (t : ℕ) → insert-lts.Need-place-parts-requir
 insert-place-parts-requires-2 t c κs =
     let pre = c .before .before .before .before .before .before .before .before .before .before .before .before .before .pre .1 in
     let stop = c .before .before .before .before .before .before .before .before .before .before .seek .ensures in
-    let fits = refs-fit _ _ _ (λ i. omega (arith, c .before .before .before .before .before .before .before .before .before .before .before .before .slice-known .given i)) in
+    let fits = refs-fit (layoutOf (c .before .before .before .before .before .before .before .before .before .before .before .before .before .args .e)) (c .before .before .before .before .before .before .before .before .before .before .before .before .before .args .index .now) (c .before .before .before .before .before .before .before .before .before .before .before .before .before .args .page .0) (λ i. omega (arith, c .before .before .before .before .before .before .before .before .before .before .before .before .slice-known .given i)) in
     insert-place pre fits stop (child-replaced _ (c .before .before .before .before .before .before .before .before .before .if1 .left) pre fits stop _ (c .before .before .before .before .before .before .before .child .ensures) (c .before .before .before .before .before .insert .ensures)) (c .before .splice-page2 .ensures)
 
 insert-same-length-2 : (t : ℕ) → insert-lts.Need-same-length-2 (
@@ -222,8 +223,8 @@ insert-returns-2 : (t : ℕ) → insert-lts.Need-returns-2 (
 insert-returns-2 t c =
     let pre = c .before .before .before .before .before .before .before .before .before .before .before .before .before .before .before .before .pre .1 in
     let stop = c .before .before .before .before .before .before .before .before .before .before .before .before .before .seek .ensures in
-    let fits = refs-fit _ _ _ (λ i. omega (arith, c .before .before .before .before .before .before .before .before .before .before .before .before .before .before .before .slice-known .given i)) in
-    insert-done pre fits stop (child-replaced _ (c .before .before .before .before .before .before .before .before .before .before .before .before .if1 .left) pre fits stop _ (c .before .before .before .before .before .before .before .before .before .before .child .ensures) (c .before .before .before .before .before .before .before .before .insert .ensures)) (c .before .before .before .before .splice-page2 .ensures) (c .before .before .place-parts2 .ensures) (search needs) (length-row (c .before .before .place-parts2 .result) (search needs, search needs) (omega (arith, c .before .before .place-parts2 .ensures .few)))
+    let fits = refs-fit (layoutOf (c .before .before .before .before .before .before .before .before .before .before .before .before .before .before .before .before .args .e)) (c .before .before .before .before .before .before .before .before .before .before .before .before .before .before .before .before .args .index .now) (c .before .before .before .before .before .before .before .before .before .before .before .before .before .before .before .before .args .page .0) (λ i. omega (arith, c .before .before .before .before .before .before .before .before .before .before .before .before .before .before .before .slice-known .given i)) in
+    insert-done pre fits stop (child-replaced _ (c .before .before .before .before .before .before .before .before .before .before .before .before .if1 .left) pre fits stop _ (c .before .before .before .before .before .before .before .before .before .before .child .ensures) (c .before .before .before .before .before .before .before .before .insert .ensures)) (c .before .before .before .before .splice-page2 .ensures) (c .before .before .place-parts2 .ensures) (omega (arith, c .before .before .before .before .before .before .before .before .before .before .before .before .before .before .before .before .fits)) (length-row (c .before .before .place-parts2 .result) (search needs, search needs) (omega (arith, c .before .before .place-parts2 .ensures .few)))
 
 pub +insert-spec : {M : Type 1} → statement M
 +insert-spec = close μ-insert λ t. insert-lts.spec (
