@@ -106,7 +106,7 @@ module _ {b : List ℕ} {e P page w key position τ : ℕ} {news : Row} {s : Spo
           let m : suc n - 1 ≡ n = omega arith in
           let sound : SoundBelow (layoutOf e) P (suc n) b y = all-at (SoundBelow (layoutOf e) P (suc n) b) (pagesAt (layoutOf e) b page) (s .at) (0, 0) (stop .inside) (p .descend .sound .2) in
           let same : _≡_ {A = Ref} (pageRef e b below) y =
-                  ap (λ (k : ℕ). pageRef e b k) pointed ∙ ap (λ (d : ℕ). (d, y .1)) (closed-last depthOf (y .0) 0 (pagesAt (layoutOf e) b (y .1)) (sound .1)) in
+          ap (λ (k : ℕ). pageRef e b k) pointed ∙ ap (λ (d : ℕ). (d, y .1)) (closed-last depthOf (y .0) 0 (pagesAt (layoutOf e) b (y .1)) (sound .1)) in
           subst (λ (x : Ref). Replaced e P (newLeaves news) (suc n) (leftFrom w key (s .position)) (s .trail) b x b₁ r) same (rw m at g)
 
 -- On every level: the row is spliced, placed, and stands in the place of the page.

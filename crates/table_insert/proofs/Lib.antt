@@ -7,3 +7,4 @@ pub mod FoundPlaces
 pub mod InsertSteps
 pub mod Insertions
 pub mod RootSteps
+pub mod Puttings
