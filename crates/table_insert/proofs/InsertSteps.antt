@@ -3,23 +3,22 @@ use mathlib.Core.Path.{_≡_, refl, sym, ap, ap₂, subst, _∙_}
 use mathlib.Core.Logic.{_⊎_, inl, inr}
 use mathlib.Core.Bool.{Bool, true, false, cond}
 use mathlib.Core.List.{List, [], _∷_, _++_, map, map-append}
-use Prim.Native.Nat.{ℕ, zero, suc, _+_, _-_, _≤_, _<_}
+use Prim.Native.Nat.{ℕ, suc, _+_, _-_, _≤_, _<_}
 use native.Mathlib.Omega.{arith}
 use lib.Dec.{eqb}
 use lib.ListN.{length, getD, take, drop, length-map}
 use borrow.Author.Tests.{eq-eqb, ne-eqb}
-use Rattle.leaf_list.proofs.Lists.{all-append, all-weaker, all-at}
-use Rattle.page_tree.specs.Rows.{All, sum, Closed, lastDepth}
-use Rattle.page_tree.specs.Tree.{depth}
+use Rattle.leaf_list.proofs.Lists.{all-append, all-weaker}
+use Rattle.page_tree.specs.Rows.{All, Closed}
 use Rattle.page_tree.specs.Cutting.{parts}
 use Rattle.page_tree.specs.OnPages.{Replacement, replaceIn, insertBelow, pagesBelow}
-use Rattle.page_tree.specs.Numbered.{Numbered, aside, numberedDepth, under, insertNumbered}
+use Rattle.page_tree.specs.Numbered.{Numbered, numberedDepth, under, insertNumbered}
 use Rattle.page_tree.specs.Row.{depthOf, rowOf, Holds}
 use Rattle.page_tree.specs.declared.Row.{Row}
 use Rattle.page_tree.proofs.ListLaws.{all-left, all-right, sum-append}
-use Rattle.page_tree.proofs.ClosedRows.{closed-nonempty, closed-last}
+use Rattle.page_tree.proofs.ClosedRows.{closed-nonempty}
 use Rattle.page_tree.proofs.RowMaps.{parts-map}
-use Rattle.index_table.specs.Layout.{Layout, layoutOf, Ref, Within, pageStart, pageBytes, refsOf, Fitting}
+use Rattle.index_table.specs.Layout.{Layout, layoutOf, Ref, pageStart, pageBytes, refsOf, Fitting}
 use Rattle.index_table.specs.Pages.{pagesAt, nodeAt, numberedAt, same, met, metAll, inUse, usedPages}
 use Rattle.index_table.specs.Soundness.{SoundBelow}
 use Rattle.index_table.specs.Standing.{Owned, Stands}
@@ -99,12 +98,9 @@ module _ {b : List ℕ} {e P n page w key position τ : ℕ} (new : Replacement)
   page-used : inUse refs ≡ 1
   page-used = omega (arith, pre .sound .0 .some)
 
-  -- The entry found is owned, and sound.
+  -- The entry found is owned.
   pub found-owned : Owned L b (met n (pagesAt L b) y)
   found-owned q = omega (arith, own-parts q, sum-append (λ z. met n (pagesAt L b) z q) before (y ∷ after))
-
-  pub found-sound : SoundBelow L P n b y
-  found-sound = all-right (SoundBelow L P n b) before (y ∷ after) sound-parts .0
 
   less : y .0 < s .position
   less = found-before stop (pre .closing) (pre .sound .1) (pre .before)

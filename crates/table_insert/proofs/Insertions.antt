@@ -1,22 +1,20 @@
 -- An insertion below a page: on level 0 the new entries stand for the entry found, above it what stands for the child. Assumes nothing.
 use mathlib.Core.Path.{_≡_, refl, sym, ap, subst, _∙_}
-use mathlib.Core.List.{List, [], _∷_, map}
-use Prim.Native.Nat.{ℕ, zero, suc, _+_, _-_, _≤_, _<_}
+use mathlib.Core.List.{List, [], _∷_}
+use Prim.Native.Nat.{ℕ, zero, suc, _+_, _-_, _<_}
 use native.Mathlib.Omega.{arith}
 use lib.ListN.{length, getD}
 use Rattle.leaf_list.specs.Entries.{depthOf as entryDepth}
 use Rattle.leaf_list.proofs.Lists.{all-at}
-use Rattle.page_tree.specs.Rows.{All, Closed, lastDepth}
-use Rattle.page_tree.specs.Finding.{Found, findBelow}
-use Rattle.page_tree.specs.OnPages.{pagesBelow}
+use Rattle.page_tree.specs.Rows.{Closed}
+use Rattle.page_tree.specs.Finding.{Found}
 use Rattle.page_tree.specs.Row.{depthOf, rowOf, Holds}
 use Rattle.page_tree.specs.declared.Row.{Row}
 use Rattle.page_tree.proofs.ClosedRows.{closed-last}
 use Rattle.page_tree.proofs.ListLaws.{all-unit}
 use Rattle.index_table.specs.Layout.{layoutOf, Ref, pageBytes, refAt, Fitting}
-use Rattle.index_table.specs.Pages.{Pages, pagesAt, nodeAt, numberedAt, met, metAll, inUse, usedPages}
+use Rattle.index_table.specs.Pages.{Pages, pagesAt, nodeAt, numberedAt, met, metAll}
 use Rattle.index_table.specs.Soundness.{SoundBelow}
-use Rattle.index_table.specs.Standing.{Owned, Stands}
 use Rattle.index_table.specs.Storing.{splicedAt, Spliceable}
 use Rattle.table_search.specs.declared.Spot.{Spot}
 use Rattle.table_search.specs.Places.{leftFrom, Stopped, DescendPre}
@@ -24,7 +22,7 @@ use Rattle.table_search.proofs.Stops.{read-entry}
 use Rattle.table_search.proofs.Descents.{descend-step, descend-down}
 use Rattle.table_insert.specs.Placing.{PlacePre, PlacePost}
 use Rattle.table_insert.specs.Inserting.{newLeaves, pageRef, Replaced, InsertPre}
-use Rattle.table_insert.proofs.InsertSteps.{found-owned, found-sound, found-pages, splice-pre, place-pre, replaced-page}
+use Rattle.table_insert.proofs.InsertSteps.{found-owned, found-pages, splice-pre, place-pre, replaced-page}
 
 -- Below entries of rank 0 no page is met.
 met-none : (pages : Pages) (row : List Ref) (q : ℕ) → metAll 0 pages row q ≡ 0

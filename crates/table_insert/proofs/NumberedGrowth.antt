@@ -4,7 +4,7 @@ use mathlib.Core.List.{List, [], _∷_, map}
 use Prim.Native.Nat.{ℕ, zero, suc, _≤_, _<_}
 use native.Mathlib.Omega.{arith}
 use lib.ListN.{length, length-map}
-use Rattle.page_tree.specs.Tree.{Node, depth, Tree}
+use Rattle.page_tree.specs.Tree.{Node, depth}
 use Rattle.page_tree.specs.Cutting.{parts}
 use Rattle.page_tree.specs.OnPages.{Replacement, grow, grown, insertTree}
 use Rattle.page_tree.specs.Numbered.{Numbered, NumberedTree, aside, treeAside, numberedDepth, under, growNumbered, grownNumbered, insertNumberedTree, insertNumbered}

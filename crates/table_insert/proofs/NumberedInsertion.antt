@@ -7,7 +7,7 @@ use native.Mathlib.Omega.{arith}
 use lib.Dec.{ltb}
 use lib.ListN.{length, length-map}
 use Rattle.page_tree.specs.Rows.{All}
-use Rattle.page_tree.specs.Tree.{Node, depth}
+use Rattle.page_tree.specs.Tree.{depth}
 use Rattle.page_tree.specs.Cutting.{parts}
 use Rattle.page_tree.specs.Walk.{rest}
 use Rattle.page_tree.specs.OnPages.{Replacement, replaceIn, insertBelow}

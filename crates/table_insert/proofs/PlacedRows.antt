@@ -1,21 +1,21 @@
 -- Rows stored in pages one after the other: one page, then more in free pages. Assumes nothing.
-use mathlib.Core.Path.{_≡_, refl, sym, ap, subst, _∙_}
+use mathlib.Core.Path.{_≡_, refl, ap, _∙_}
 use mathlib.Core.Logic.{_⊎_, inl, inr}
 use mathlib.Core.List.{List, [], _∷_, _++_, map, map-append}
-use Prim.Native.Nat.{ℕ, suc, _+_, _≤_, _<_, min}
+use Prim.Native.Nat.{ℕ, suc, _+_, _≤_, _<_}
 use native.Mathlib.Omega.{arith}
 use lib.ListN.{length, take, length-append}
 use Rattle.leaf_list.proofs.Lists.{all-append, all-weaker}
 use Rattle.page_tree.specs.Rows.{All, sum, lastDepth}
 use Rattle.page_tree.proofs.ListLaws.{sum-append}
 use Rattle.page_tree.specs.Row.{depthOf}
-use Rattle.index_table.specs.Layout.{Layout, layoutOf, Ref, pageSize, pageStart, Within, pageBytes, levelOf, Fitting, rowPage, store}
+use Rattle.index_table.specs.Layout.{Layout, layoutOf, Ref, pageSize, pageStart, Within, pageBytes, Fitting, rowPage, store}
 use Rattle.index_table.specs.Pages.{pagesAt, same, inUse, usedPages}
 use Rattle.index_table.specs.Soundness.{Cleared}
 use Rattle.index_table.proofs.PageBytes.{within-table, length-store, front-store, page-stored, other-page}
 use Rattle.index_table.proofs.PageCounts.{same-self, same-cases}
 use Rattle.index_table.proofs.PageRows.{length-page-of}
-use Rattle.index_table.proofs.Frames.{stored-refs, other-refs}
+use Rattle.index_table.proofs.Frames.{stored-refs}
 use Rattle.index_table.proofs.StoredRows.{row-page-head, page-of-level, page-of-cleared}
 use Rattle.index_table.proofs.UsedPages.{used-store}
 use Rattle.table_insert.specs.Placing.{Each, Holding, owned, Placed}

@@ -1,6 +1,6 @@
 -- What stands below the entries of a row that was placed in pages one level up. Assumes nothing.
 use mathlib.Core.Path.{_≡_, refl, sym, ap, ap₂, _∙_}
-use mathlib.Core.List.{List, [], _∷_, _++_, map}
+use mathlib.Core.List.{List, [], _∷_, map}
 use Prim.Native.Nat.{ℕ, suc, _+_, _≤_, _<_}
 use native.Mathlib.Omega.{arith}
 use lib.ListN.{length}
@@ -14,8 +14,8 @@ use Rattle.page_tree.proofs.ListLaws.{sum-append}
 use Rattle.page_tree.proofs.CuttingLaws.{cut-join, cut-all, parts-cut}
 use Rattle.page_tree.proofs.RowMaps.{parts-map}
 use Rattle.index_table.specs.Layout.{Layout, layoutOf, Ref, Fitting}
-use Rattle.index_table.specs.Pages.{pagesAt, nodeAt, numberedAt, same, met, metAll, inUse}
-use Rattle.index_table.specs.Soundness.{SoundBelow, SizedPage}
+use Rattle.index_table.specs.Pages.{pagesAt, nodeAt, numberedAt, same, met, metAll}
+use Rattle.index_table.specs.Soundness.{SoundBelow}
 use Rattle.index_table.specs.Standing.{Owned, Stands}
 use Rattle.index_table.proofs.Frames.{UnchangedRow, unchanged-row}
 use Rattle.index_table.proofs.SoundNodes.{sound-depths}

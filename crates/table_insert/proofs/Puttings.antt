@@ -1,8 +1,8 @@
 -- New entries put into a sound tree: the insertion below the root, then the new roots. Assumes nothing.
 use mathlib.Core.Path.{_≡_, refl, sym, ap, subst, _∙_}
 use mathlib.Core.Bool.{Bool, true, false, cond}
-use mathlib.Core.List.{List, [], _∷_, map}
-use Prim.Native.Nat.{ℕ, zero, suc, _+_, _≤_, _<_}
+use mathlib.Core.List.{List, [], map}
+use Prim.Native.Nat.{ℕ, suc, _+_, _≤_, _<_}
 use native.Mathlib.Omega.{arith}
 use lib.Dec.{leb}
 use lib.ListN.{length, length-map, length-take}
@@ -11,11 +11,11 @@ use Rattle.leaf_list.specs.Keys.{bits}
 use Rattle.leaf_list.specs.Entries.{Entry, entry, depthOf as entryDepth}
 use Rattle.leaf_list.specs.Search.{positions}
 use Rattle.leaf_list.proofs.Positions.{Beyond, positions-beyond, positions-rise}
-use Rattle.page_tree.specs.Rows.{All, sum, Closed, lastDepth}
-use Rattle.page_tree.specs.Tree.{Node, Tree, depth, pageCount, pagesOf, RootRule}
+use Rattle.page_tree.specs.Rows.{All, Closed, lastDepth}
+use Rattle.page_tree.specs.Tree.{Node, Tree, depth, pagesOf, RootRule}
 use Rattle.page_tree.specs.Finding.{findBelow, findIn}
-use Rattle.page_tree.specs.OnPages.{insertBelow, pagesBelow, grown, insertTree}
-use Rattle.page_tree.specs.Numbered.{Numbered, NumberedTree, aside, treeAside, insertNumbered, grownNumbered, insertNumberedTree}
+use Rattle.page_tree.specs.OnPages.{insertBelow, pagesBelow, insertTree}
+use Rattle.page_tree.specs.Numbered.{aside, treeAside, insertNumbered, grownNumbered, insertNumberedTree}
 use Rattle.page_tree.specs.Row.{depthOf, places, rowOf}
 use Rattle.page_tree.specs.declared.Row.{Row}
 use Rattle.page_tree.proofs.ListLaws.{all-unit}
@@ -23,16 +23,16 @@ use Rattle.page_tree.proofs.ClosedRows.{closed-nonempty, closed-last}
 use Rattle.page_tree.proofs.RowMaps.{closed-map}
 use Rattle.page_tree.proofs.InsertionPages.{insertBelow-pages, insertTree-pages}
 use Rattle.page_tree.proofs.InsertionSound.{Fits, insertTree-root}
-use Rattle.index_table.specs.Layout.{Layout, layoutOf, Ref}
+use Rattle.index_table.specs.Layout.{Layout, layoutOf}
 use Rattle.index_table.specs.Pages.{pagesAt, leafOf, nodeAt, numberedAt, treeAt, numberedTreeAt, rootRef, met, metAll, inUse, usedPages}
-use Rattle.index_table.specs.Soundness.{SoundBelow, SoundPages}
-use Rattle.index_table.specs.Standing.{Owned, TreeTable}
+use Rattle.index_table.specs.Soundness.{SoundBelow}
+use Rattle.index_table.specs.Standing.{Owned}
 use Rattle.index_table.specs.declared.layout.Root.{Root}
 use Rattle.index_table.proofs.SoundNodes.{sound-tree, tree-root-rule, tree-depth}
 use Rattle.index_table.proofs.NumberedPages.{numbered-aside, numbereds-aside, tree-aside}
 use Rattle.index_table.proofs.UsedPages.{used-tree}
 use Rattle.index_table.proofs.StandingLaws.{stands-owned}
-use Rattle.table_search.specs.Places.{leftFrom, NextPosition, DescendPre}
+use Rattle.table_search.specs.Places.{leftFrom, NextPosition}
 use Rattle.table_insert.specs.Inserting.{newLeaves, pageRef, Replaced, InsertPre}
 use Rattle.table_insert.specs.NewRoots.{rootsAt, GrowPre, GrowPost}
 use Rattle.table_insert.specs.Putting.{PutPre, PutPost}

@@ -1,20 +1,18 @@
 -- New roots: one part is the root; the row of more parts is placed one level up, and grows there. Assumes nothing.
-use mathlib.Core.Path.{_≡_, refl, sym, ap, ap₂, subst, _∙_}
+use mathlib.Core.Path.{_≡_, refl, sym, ap, subst, _∙_}
 use mathlib.Core.Logic.{_⊎_, inl, inr}
-use mathlib.Core.Bool.{Bool, true, false, cond}
-use mathlib.Core.List.{List, [], _∷_, _++_, map}
-use Prim.Native.Nat.{ℕ, zero, suc, _+_, _-_, _≤_, _<_}
+use mathlib.Core.Bool.{Bool, cond}
+use mathlib.Core.List.{List, [], _∷_, map}
+use Prim.Native.Nat.{ℕ, suc, _+_, _-_, _≤_, _<_}
 use native.Mathlib.Omega.{arith}
-use lib.Dec.{eqb}
 use lib.ListN.{length, getD, take, length-map}
 use lib.Seq.{take-suc}
 use borrow.Author.Tests.{eq-eqb, ne-eqb}
-use Rattle.leaf_list.proofs.Lists.{all-at}
 use Rattle.page_tree.specs.Rows.{All, sum, Closed, lastDepth}
 use Rattle.page_tree.specs.Tree.{Node, depth, pageCount, pagesOf, Tree}
 use Rattle.page_tree.specs.Cutting.{parts}
-use Rattle.page_tree.specs.OnPages.{grow, grown}
-use Rattle.page_tree.specs.Numbered.{Numbered, NumberedTree, aside, numberedDepth, under, growNumbered, grownNumbered}
+use Rattle.page_tree.specs.OnPages.{grown}
+use Rattle.page_tree.specs.Numbered.{Numbered, aside, numberedDepth, under, grownNumbered}
 use Rattle.page_tree.specs.Row.{depthOf, places, rowOf}
 use Rattle.page_tree.specs.declared.Row.{Row}
 use Rattle.page_tree.proofs.ListLaws.{sum-concat}
@@ -24,7 +22,7 @@ use Rattle.page_tree.proofs.RowMaps.{parts-map}
 use Rattle.page_tree.proofs.RowLaws.{Full, length-zip, place-at}
 use Rattle.page_tree.proofs.Growing.{parts-fewer, rootParts, grown-again, grow-pages}
 use Rattle.index_table.specs.Layout.{Layout, layoutOf, Ref, pageStart, Fitting}
-use Rattle.index_table.specs.Pages.{pagesAt, nodeAt, numberedAt, numberedTreeAt, same, metAll, inUse, usedPages}
+use Rattle.index_table.specs.Pages.{pagesAt, nodeAt, numberedAt, numberedTreeAt, same, metAll, usedPages}
 use Rattle.index_table.specs.Soundness.{SoundBelow}
 use Rattle.index_table.specs.Standing.{Owned, Stands}
 use Rattle.index_table.specs.declared.layout.Root.{Root}
@@ -32,7 +30,7 @@ use Rattle.index_table.proofs.PageCounts.{same-cases}
 use Rattle.index_table.proofs.SoundNodes.{sound-depths}
 use Rattle.index_table.proofs.NumberedPages.{numbereds-aside}
 use Rattle.index_table.proofs.StandingLaws.{stands-none, stands-owned}
-use Rattle.table_insert.specs.Placing.{owned, Placed, PlacePre, PlacePost}
+use Rattle.table_insert.specs.Placing.{owned, PlacePre, PlacePost}
 use Rattle.table_insert.specs.NewRoots.{rootsAt, GrowPre, GrowPost}
 use Rattle.table_insert.proofs.PlacedTrees.{placed-closed, placed-fits, placed-stands, placed-numbered}
 use Rattle.table_insert.proofs.NumberedInsertion.{under-aside, same-depths}

@@ -1,10 +1,6 @@
 // New entries put into the pages of a sound tree: the page found is changed and cut, its parts enter the parent, and so up.
 ghost use mathlib.Core.Path.{_≡_};
-ghost use Prim.Native.Nat.{_+_, _-_, _≤_, _<_};
-ghost use lib.ListN.{length};
-ghost use Rattle.index_table.specs.Layout.{layoutOf, rowPage, store};
-ghost use Rattle.index_table.specs.Pages.{pagesAt};
-ghost use Rattle.page_tree.specs.Row.{partOf};
+ghost use Prim.Native.Nat.{_+_, _-_, _<_};
 ghost use Rattle.table_insert.specs.Placing.{PlacePre, PlacePost, PartPre, PartPost};
 ghost use Rattle.table_search.specs.Places.{leftFrom};
 ghost use Prim.Native.Nat.{suc};
