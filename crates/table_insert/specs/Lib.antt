@@ -1,0 +1,4 @@
+pub mod Placing
+pub mod Inserting
+pub mod NewRoots
+pub mod Putting
