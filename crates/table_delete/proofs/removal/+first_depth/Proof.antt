@@ -1,0 +1,135 @@
+use borrow.Author.Needs.{needs}
+use Prim.Native.Nat.{ℕ, _<_}
+use borrow.Fn.Kinds.{In}
+use borrow.Fn.PlainCycle.{Measures, is, falls, and}
+use Rattle.table_delete.proofs.removal.first_depth.Reads as first-depth
+use Rattle.table_delete.proofs.removal.first_depth.Kinds as first-depth-kinds
+use Rattle.table_delete.proofs.removal.+first_depth.Lts-first_depth as first-depth-lts
+use Rattle.index_table.proofs.layout.depth.Reads as depth-reads
+use Rattle.index_table.proofs.layout.pointer.Reads as pointer-reads
+use Rattle.table_delete.proofs.rows.page_of.Reads as page-of-reads
+use Rattle.table_delete.proofs.removal.+first_depth.{statement}
+use Rattle.table_delete.proofs.removal.+first_depth.Tie.{close}
+
+abbrev μ-first-depth : Measures 1 first-depth-kinds.ps ℕ
+μ-first-depth κs a = ?
+
+abbrev first-depth-at : ℕ → In 1 first-depth-kinds.ps
+first-depth-at t =
+    and 1 first-depth-kinds.ps (is 1 first-depth-kinds.ps μ-first-depth t) first-depth.Pre
+
+abbrev first-depth-below : ℕ → In 1 first-depth-kinds.ps
+first-depth-below t =
+    and 1 first-depth-kinds.ps (falls 1 first-depth-kinds.ps _<_ μ-first-depth t) first-depth.Pre
+
+-- src/removal.rt:36:9
+first-depth-returns : (t : ℕ) → first-depth-lts.Need-returns (
+  page-of-reads.Asked,
+  page-of-reads.Learnt,
+  depth-reads.Asked,
+  depth-reads.Learnt,
+  pointer-reads.Asked,
+  pointer-reads.Learnt,
+  first-depth-below t,
+  first-depth.Post,
+) (first-depth-at t) first-depth.Post
+first-depth-returns t c = ?
+
+-- src/removal.rt:38:9
+first-depth-page-of-requires : (t : ℕ) → first-depth-lts.Need-page-of-requires (
+  page-of-reads.Asked,
+  page-of-reads.Learnt,
+  depth-reads.Asked,
+  depth-reads.Learnt,
+  pointer-reads.Asked,
+  pointer-reads.Learnt,
+  first-depth-below t,
+  first-depth.Post,
+) (first-depth-at t) first-depth.Post
+first-depth-page-of-requires t c κs = ?
+
+-- src/removal.rt:39:9
+first-depth-depth-requires : (t : ℕ) → first-depth-lts.Need-depth-requires (
+  page-of-reads.Asked,
+  page-of-reads.Learnt,
+  depth-reads.Asked,
+  depth-reads.Learnt,
+  pointer-reads.Asked,
+  pointer-reads.Learnt,
+  first-depth-below t,
+  first-depth.Post,
+) (first-depth-at t) first-depth.Post
+first-depth-depth-requires t c κs = ?
+
+-- src/removal.rt:40:9
+first-depth-pointer-requires : (t : ℕ) → first-depth-lts.Need-pointer-requires (
+  page-of-reads.Asked,
+  page-of-reads.Learnt,
+  depth-reads.Asked,
+  depth-reads.Learnt,
+  pointer-reads.Asked,
+  pointer-reads.Learnt,
+  first-depth-below t,
+  first-depth.Post,
+) (first-depth-at t) first-depth.Post
+first-depth-pointer-requires t c κs = ?
+
+-- src/removal.rt:41:34
+first-depth-sub-first-depth : (t : ℕ) → first-depth-lts.Need-sub-first-depth (
+  page-of-reads.Asked,
+  page-of-reads.Learnt,
+  depth-reads.Asked,
+  depth-reads.Learnt,
+  pointer-reads.Asked,
+  pointer-reads.Learnt,
+  first-depth-below t,
+  first-depth.Post,
+) (first-depth-at t) first-depth.Post
+first-depth-sub-first-depth t c = search needs
+
+-- src/removal.rt:41:5
+first-depth-first-depth-requires : (t : ℕ) → first-depth-lts.Need-first-depth-requires (
+  page-of-reads.Asked,
+  page-of-reads.Learnt,
+  depth-reads.Asked,
+  depth-reads.Learnt,
+  pointer-reads.Asked,
+  pointer-reads.Learnt,
+  first-depth-below t,
+  first-depth.Post,
+) (first-depth-at t) first-depth.Post
+first-depth-first-depth-requires t c κs = ?
+
+-- src/removal.rt:31:1
+first-depth-returns-2 : (t : ℕ) → first-depth-lts.Need-returns-2 (
+  page-of-reads.Asked,
+  page-of-reads.Learnt,
+  depth-reads.Asked,
+  depth-reads.Learnt,
+  pointer-reads.Asked,
+  pointer-reads.Learnt,
+  first-depth-below t,
+  first-depth.Post,
+) (first-depth-at t) first-depth.Post
+first-depth-returns-2 t c = ?
+
+pub +first-depth-spec : {M : Type 1} → statement M
++first-depth-spec = close μ-first-depth λ t. first-depth-lts.spec (
+  page-of-reads.Asked,
+  page-of-reads.Learnt,
+  depth-reads.Asked,
+  depth-reads.Learnt,
+  pointer-reads.Asked,
+  pointer-reads.Learnt,
+  first-depth-below t,
+  first-depth.Post,
+)
+    (first-depth-at t)
+    first-depth.Post
+    (first-depth-returns t)
+    (first-depth-page-of-requires t)
+    (first-depth-depth-requires t)
+    (first-depth-pointer-requires t)
+    (first-depth-sub-first-depth t)
+    (first-depth-first-depth-requires t)
+    (first-depth-returns-2 t)

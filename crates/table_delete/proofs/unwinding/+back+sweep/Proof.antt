@@ -1,0 +1,509 @@
+use borrow.Author.Needs.{needs}
+use Prim.Native.Nat.{ℕ, _<_}
+use borrow.Fn.Kinds.{In}
+use borrow.Fn.PlainCycle.{Measures, is, falls, and}
+use Rattle.table_delete.proofs.unwinding.back.Reads as back
+use Rattle.table_delete.proofs.unwinding.back.Kinds as back-kinds
+use Rattle.table_delete.proofs.unwinding.+back+sweep.Lts-back as back-lts
+use Rattle.table_delete.proofs.unwinding.sweep.Reads as sweep
+use Rattle.table_delete.proofs.unwinding.sweep.Kinds as sweep-kinds
+use Rattle.table_delete.proofs.unwinding.+back+sweep.Lts-sweep as sweep-lts
+use Rattle.index_table.proofs.rows.load_page.Reads as load-page-reads
+use Rattle.page_tree.proofs.Row.depth.Reads as depth-reads
+use Rattle.page_tree.proofs.Row.pointer.Reads as pointer-reads
+use Rattle.table_delete.proofs.entries.idle.Reads as idle-reads
+use Rattle.table_delete.proofs.entries.step.Reads as step-reads
+use Rattle.table_delete.proofs.rows.joined.Reads as joined-reads
+use Rattle.table_delete.proofs.rows.page_of.Reads as page-of-reads
+use Rattle.table_delete.proofs.rows.put.Reads as put-reads
+use Rattle.table_delete.proofs.rows.settle.Reads as settle-reads
+use Rattle.table_delete.proofs.unwinding.+back+sweep.{statement}
+use Rattle.table_delete.proofs.unwinding.+back+sweep.Tie.{close}
+
+abbrev μ-back : Measures 1 back-kinds.ps ℕ
+μ-back κs a = ?
+
+abbrev μ-sweep : Measures 1 sweep-kinds.ps ℕ
+μ-sweep κs a = ?
+
+abbrev back-at : ℕ → In 1 back-kinds.ps
+back-at t = and 1 back-kinds.ps (is 1 back-kinds.ps μ-back t) back.Pre
+
+abbrev back-below : ℕ → In 1 back-kinds.ps
+back-below t = and 1 back-kinds.ps (falls 1 back-kinds.ps _<_ μ-back t) back.Pre
+
+abbrev sweep-at : ℕ → In 1 sweep-kinds.ps
+sweep-at t = and 1 sweep-kinds.ps (is 1 sweep-kinds.ps μ-sweep t) sweep.Pre
+
+abbrev sweep-below : ℕ → In 1 sweep-kinds.ps
+sweep-below t = and 1 sweep-kinds.ps (falls 1 sweep-kinds.ps _<_ μ-sweep t) sweep.Pre
+
+-- src/unwinding.rt:23:9
+back-step-requires : (t : ℕ) → back-lts.Need-step-requires (
+  step-reads.Asked,
+  step-reads.Learnt,
+  page-of-reads.Asked,
+  page-of-reads.Learnt,
+  load-page-reads.Asked,
+  load-page-reads.Learnt,
+  sweep-below t,
+  sweep.Post,
+  settle-reads.Asked,
+  settle-reads.Learnt,
+) (back-at t) back.Post
+back-step-requires t c κs = ?
+
+-- src/unwinding.rt:23:9
+back-returns : (t : ℕ) → back-lts.Need-returns (
+  step-reads.Asked,
+  step-reads.Learnt,
+  page-of-reads.Asked,
+  page-of-reads.Learnt,
+  load-page-reads.Asked,
+  load-page-reads.Learnt,
+  sweep-below t,
+  sweep.Post,
+  settle-reads.Asked,
+  settle-reads.Learnt,
+) (back-at t) back.Post
+back-returns t c = ?
+
+-- src/unwinding.rt:25:9
+back-page-of-requires : (t : ℕ) → back-lts.Need-page-of-requires (
+  step-reads.Asked,
+  step-reads.Learnt,
+  page-of-reads.Asked,
+  page-of-reads.Learnt,
+  load-page-reads.Asked,
+  load-page-reads.Learnt,
+  sweep-below t,
+  sweep.Post,
+  settle-reads.Asked,
+  settle-reads.Learnt,
+) (back-at t) back.Post
+back-page-of-requires t c κs = ?
+
+-- src/unwinding.rt:26:9
+back-load-page-requires : (t : ℕ) → back-lts.Need-load-page-requires (
+  step-reads.Asked,
+  step-reads.Learnt,
+  page-of-reads.Asked,
+  page-of-reads.Learnt,
+  load-page-reads.Asked,
+  load-page-reads.Learnt,
+  sweep-below t,
+  sweep.Post,
+  settle-reads.Asked,
+  settle-reads.Learnt,
+) (back-at t) back.Post
+back-load-page-requires t c κs = ?
+
+-- src/unwinding.rt:28:39
+back-sub-sweep : (t : ℕ) → back-lts.Need-sub-sweep (
+  step-reads.Asked,
+  step-reads.Learnt,
+  page-of-reads.Asked,
+  page-of-reads.Learnt,
+  load-page-reads.Asked,
+  load-page-reads.Learnt,
+  sweep-below t,
+  sweep.Post,
+  settle-reads.Asked,
+  settle-reads.Learnt,
+) (back-at t) back.Post
+back-sub-sweep t c = search needs
+
+-- src/unwinding.rt:28:9
+back-sweep-requires : (t : ℕ) → back-lts.Need-sweep-requires (
+  step-reads.Asked,
+  step-reads.Learnt,
+  page-of-reads.Asked,
+  page-of-reads.Learnt,
+  load-page-reads.Asked,
+  load-page-reads.Learnt,
+  sweep-below t,
+  sweep.Post,
+  settle-reads.Asked,
+  settle-reads.Learnt,
+) (back-at t) back.Post
+back-sweep-requires t c κs = ?
+
+-- src/unwinding.rt:29:22
+back-sub-settle : (t : ℕ) → back-lts.Need-sub-settle (
+  step-reads.Asked,
+  step-reads.Learnt,
+  page-of-reads.Asked,
+  page-of-reads.Learnt,
+  load-page-reads.Asked,
+  load-page-reads.Learnt,
+  sweep-below t,
+  sweep.Post,
+  settle-reads.Asked,
+  settle-reads.Learnt,
+) (back-at t) back.Post
+back-sub-settle t c = ?
+
+-- src/unwinding.rt:29:5
+back-settle-requires : (t : ℕ) → back-lts.Need-settle-requires (
+  step-reads.Asked,
+  step-reads.Learnt,
+  page-of-reads.Asked,
+  page-of-reads.Learnt,
+  load-page-reads.Asked,
+  load-page-reads.Learnt,
+  sweep-below t,
+  sweep.Post,
+  settle-reads.Asked,
+  settle-reads.Learnt,
+) (back-at t) back.Post
+back-settle-requires t c κs = ?
+
+-- src/unwinding.rt:18:1
+back-same-length : (t : ℕ) → back-lts.Need-same-length (
+  step-reads.Asked,
+  step-reads.Learnt,
+  page-of-reads.Asked,
+  page-of-reads.Learnt,
+  load-page-reads.Asked,
+  load-page-reads.Learnt,
+  sweep-below t,
+  sweep.Post,
+  settle-reads.Asked,
+  settle-reads.Learnt,
+) (back-at t) back.Post
+back-same-length t c = ?
+
+-- src/unwinding.rt:18:1
+back-returns-2 : (t : ℕ) → back-lts.Need-returns-2 (
+  step-reads.Asked,
+  step-reads.Learnt,
+  page-of-reads.Asked,
+  page-of-reads.Learnt,
+  load-page-reads.Asked,
+  load-page-reads.Learnt,
+  sweep-below t,
+  sweep.Post,
+  settle-reads.Asked,
+  settle-reads.Learnt,
+) (back-at t) back.Post
+back-returns-2 t c = ?
+
+abbrev sweep-Inv-loop : sweep-lts.InvT-loop
+sweep-Inv-loop index₀ e pages rank left right r₀ i₀ at₀ s₀ index r i at s = ?
+
+abbrev sweep-μ-loop : sweep-lts.MeasureT-loop
+sweep-μ-loop index₀ e pages rank left right r₀ i₀ at₀ s₀ index r i at s = ?
+
+-- src/unwinding.rt:50:5
+sweep-loop-holds : (t : ℕ) → sweep-lts.Need-loop-holds (
+  idle-reads.Asked,
+  idle-reads.Learnt,
+  joined-reads.Asked,
+  joined-reads.Learnt,
+  depth-reads.Asked,
+  depth-reads.Learnt,
+  pointer-reads.Asked,
+  pointer-reads.Learnt,
+  back-below t,
+  back.Post,
+  put-reads.Asked,
+  put-reads.Learnt,
+) (sweep-at t) sweep.Post sweep-Inv-loop sweep-μ-loop
+sweep-loop-holds t c = ?
+
+-- src/unwinding.rt:51:12
+sweep-idle-requires : (t : ℕ) → sweep-lts.Need-idle-requires (
+  idle-reads.Asked,
+  idle-reads.Learnt,
+  joined-reads.Asked,
+  joined-reads.Learnt,
+  depth-reads.Asked,
+  depth-reads.Learnt,
+  pointer-reads.Asked,
+  pointer-reads.Learnt,
+  back-below t,
+  back.Post,
+  put-reads.Asked,
+  put-reads.Learnt,
+) (sweep-at t) sweep.Post sweep-Inv-loop sweep-μ-loop
+sweep-idle-requires t c κs = ?
+
+-- src/unwinding.rt:52:17
+sweep-joined-requires : (t : ℕ) → sweep-lts.Need-joined-requires (
+  idle-reads.Asked,
+  idle-reads.Learnt,
+  joined-reads.Asked,
+  joined-reads.Learnt,
+  depth-reads.Asked,
+  depth-reads.Learnt,
+  pointer-reads.Asked,
+  pointer-reads.Learnt,
+  back-below t,
+  back.Post,
+  put-reads.Asked,
+  put-reads.Learnt,
+) (sweep-at t) sweep.Post sweep-Inv-loop sweep-μ-loop
+sweep-joined-requires t c κs = ?
+
+-- src/unwinding.rt:53:13
+sweep-same-length : (t : ℕ) → sweep-lts.Need-same-length (
+  idle-reads.Asked,
+  idle-reads.Learnt,
+  joined-reads.Asked,
+  joined-reads.Learnt,
+  depth-reads.Asked,
+  depth-reads.Learnt,
+  pointer-reads.Asked,
+  pointer-reads.Learnt,
+  back-below t,
+  back.Post,
+  put-reads.Asked,
+  put-reads.Learnt,
+) (sweep-at t) sweep.Post sweep-Inv-loop sweep-μ-loop
+sweep-same-length t c = ?
+
+-- src/unwinding.rt:53:13
+sweep-returns : (t : ℕ) → sweep-lts.Need-returns (
+  idle-reads.Asked,
+  idle-reads.Learnt,
+  joined-reads.Asked,
+  joined-reads.Learnt,
+  depth-reads.Asked,
+  depth-reads.Learnt,
+  pointer-reads.Asked,
+  pointer-reads.Learnt,
+  back-below t,
+  back.Post,
+  put-reads.Asked,
+  put-reads.Learnt,
+) (sweep-at t) sweep.Post sweep-Inv-loop sweep-μ-loop
+sweep-returns t c = ?
+
+-- src/unwinding.rt:55:9
+sweep-sub-i : (t : ℕ) → sweep-lts.Need-sub-i (
+  idle-reads.Asked,
+  idle-reads.Learnt,
+  joined-reads.Asked,
+  joined-reads.Learnt,
+  depth-reads.Asked,
+  depth-reads.Learnt,
+  pointer-reads.Asked,
+  pointer-reads.Learnt,
+  back-below t,
+  back.Post,
+  put-reads.Asked,
+  put-reads.Learnt,
+) (sweep-at t) sweep.Post sweep-Inv-loop sweep-μ-loop
+sweep-sub-i t c = search needs
+
+-- src/unwinding.rt:56:13
+sweep-depth-requires : (t : ℕ) → sweep-lts.Need-depth-requires (
+  idle-reads.Asked,
+  idle-reads.Learnt,
+  joined-reads.Asked,
+  joined-reads.Learnt,
+  depth-reads.Asked,
+  depth-reads.Learnt,
+  pointer-reads.Asked,
+  pointer-reads.Learnt,
+  back-below t,
+  back.Post,
+  put-reads.Asked,
+  put-reads.Learnt,
+) (sweep-at t) sweep.Post sweep-Inv-loop sweep-μ-loop
+sweep-depth-requires t c κs = ?
+
+-- src/unwinding.rt:57:13
+sweep-pointer-requires : (t : ℕ) → sweep-lts.Need-pointer-requires (
+  idle-reads.Asked,
+  idle-reads.Learnt,
+  joined-reads.Asked,
+  joined-reads.Learnt,
+  depth-reads.Asked,
+  depth-reads.Learnt,
+  pointer-reads.Asked,
+  pointer-reads.Learnt,
+  back-below t,
+  back.Post,
+  put-reads.Asked,
+  put-reads.Learnt,
+) (sweep-at t) sweep.Post sweep-Inv-loop sweep-μ-loop
+sweep-pointer-requires t c κs = ?
+
+-- src/unwinding.rt:58:13
+sweep-back-requires : (t : ℕ) → sweep-lts.Need-back-requires (
+  idle-reads.Asked,
+  idle-reads.Learnt,
+  joined-reads.Asked,
+  joined-reads.Learnt,
+  depth-reads.Asked,
+  depth-reads.Learnt,
+  pointer-reads.Asked,
+  pointer-reads.Learnt,
+  back-below t,
+  back.Post,
+  put-reads.Asked,
+  put-reads.Learnt,
+) (sweep-at t) sweep.Post sweep-Inv-loop sweep-μ-loop
+sweep-back-requires t c κs = ?
+
+-- src/unwinding.rt:60:13
+sweep-put-requires : (t : ℕ) → sweep-lts.Need-put-requires (
+  idle-reads.Asked,
+  idle-reads.Learnt,
+  joined-reads.Asked,
+  joined-reads.Learnt,
+  depth-reads.Asked,
+  depth-reads.Learnt,
+  pointer-reads.Asked,
+  pointer-reads.Learnt,
+  back-below t,
+  back.Post,
+  put-reads.Asked,
+  put-reads.Learnt,
+) (sweep-at t) sweep.Post sweep-Inv-loop sweep-μ-loop
+sweep-put-requires t c κs = ?
+
+-- src/unwinding.rt:50:5
+sweep-loop-less : (t : ℕ) → sweep-lts.Need-loop-less (
+  idle-reads.Asked,
+  idle-reads.Learnt,
+  joined-reads.Asked,
+  joined-reads.Learnt,
+  depth-reads.Asked,
+  depth-reads.Learnt,
+  pointer-reads.Asked,
+  pointer-reads.Learnt,
+  back-below t,
+  back.Post,
+  put-reads.Asked,
+  put-reads.Learnt,
+) (sweep-at t) sweep.Post sweep-Inv-loop sweep-μ-loop
+sweep-loop-less t c = ?
+
+-- src/unwinding.rt:50:5
+sweep-loop-again : (t : ℕ) → sweep-lts.Need-loop-again (
+  idle-reads.Asked,
+  idle-reads.Learnt,
+  joined-reads.Asked,
+  joined-reads.Learnt,
+  depth-reads.Asked,
+  depth-reads.Learnt,
+  pointer-reads.Asked,
+  pointer-reads.Learnt,
+  back-below t,
+  back.Post,
+  put-reads.Asked,
+  put-reads.Learnt,
+) (sweep-at t) sweep.Post sweep-Inv-loop sweep-μ-loop
+sweep-loop-again t c = ?
+
+-- src/unwinding.rt:64:9
+sweep-joined-requires-2 : (t : ℕ) → sweep-lts.Need-joined-requires-2 (
+  idle-reads.Asked,
+  idle-reads.Learnt,
+  joined-reads.Asked,
+  joined-reads.Learnt,
+  depth-reads.Asked,
+  depth-reads.Learnt,
+  pointer-reads.Asked,
+  pointer-reads.Learnt,
+  back-below t,
+  back.Post,
+  put-reads.Asked,
+  put-reads.Learnt,
+) (sweep-at t) sweep.Post sweep-Inv-loop sweep-μ-loop
+sweep-joined-requires-2 t c κs = ?
+
+-- src/unwinding.rt:33:1
+sweep-same-length-2 : (t : ℕ) → sweep-lts.Need-same-length-2 (
+  idle-reads.Asked,
+  idle-reads.Learnt,
+  joined-reads.Asked,
+  joined-reads.Learnt,
+  depth-reads.Asked,
+  depth-reads.Learnt,
+  pointer-reads.Asked,
+  pointer-reads.Learnt,
+  back-below t,
+  back.Post,
+  put-reads.Asked,
+  put-reads.Learnt,
+) (sweep-at t) sweep.Post sweep-Inv-loop sweep-μ-loop
+sweep-same-length-2 t c = ?
+
+-- src/unwinding.rt:33:1
+sweep-returns-2 : (t : ℕ) → sweep-lts.Need-returns-2 (
+  idle-reads.Asked,
+  idle-reads.Learnt,
+  joined-reads.Asked,
+  joined-reads.Learnt,
+  depth-reads.Asked,
+  depth-reads.Learnt,
+  pointer-reads.Asked,
+  pointer-reads.Learnt,
+  back-below t,
+  back.Post,
+  put-reads.Asked,
+  put-reads.Learnt,
+) (sweep-at t) sweep.Post sweep-Inv-loop sweep-μ-loop
+sweep-returns-2 t c = ?
+
+pub +back+sweep-spec : {M : Type 1} → statement M
++back+sweep-spec = close μ-back μ-sweep (λ t. back-lts.spec (
+  step-reads.Asked,
+  step-reads.Learnt,
+  page-of-reads.Asked,
+  page-of-reads.Learnt,
+  load-page-reads.Asked,
+  load-page-reads.Learnt,
+  sweep-below t,
+  sweep.Post,
+  settle-reads.Asked,
+  settle-reads.Learnt,
+)
+    (back-at t)
+    back.Post
+    (back-step-requires t)
+    (back-returns t)
+    (back-page-of-requires t)
+    (back-load-page-requires t)
+    (back-sub-sweep t)
+    (back-sweep-requires t)
+    (back-sub-settle t)
+    (back-settle-requires t)
+    (back-same-length t)
+    (back-returns-2 t))
+    λ t. sweep-lts.spec (
+      idle-reads.Asked,
+      idle-reads.Learnt,
+      joined-reads.Asked,
+      joined-reads.Learnt,
+      depth-reads.Asked,
+      depth-reads.Learnt,
+      pointer-reads.Asked,
+      pointer-reads.Learnt,
+      back-below t,
+      back.Post,
+      put-reads.Asked,
+      put-reads.Learnt,
+    )
+    (sweep-at t)
+    sweep.Post
+    sweep-Inv-loop
+    sweep-μ-loop
+    (sweep-loop-holds t)
+    (sweep-idle-requires t)
+    (sweep-joined-requires t)
+    (sweep-same-length t)
+    (sweep-returns t)
+    (sweep-sub-i t)
+    (sweep-depth-requires t)
+    (sweep-pointer-requires t)
+    (sweep-back-requires t)
+    (sweep-put-requires t)
+    (sweep-loop-less t)
+    (sweep-loop-again t)
+    (sweep-joined-requires-2 t)
+    (sweep-same-length-2 t)
+    (sweep-returns-2 t)
