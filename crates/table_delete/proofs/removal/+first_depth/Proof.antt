@@ -1,3 +1,5 @@
+use Rattle.table_delete.proofs.Following.{first-leaf, first-fits, first-read, first-down, first-post}
+use native.Mathlib.Omega.{arith}
 use borrow.Author.Needs.{needs}
 use Prim.Native.Nat.{ℕ, _<_}
 use borrow.Fn.Kinds.{In}
@@ -12,7 +14,7 @@ use Rattle.table_delete.proofs.removal.+first_depth.{statement}
 use Rattle.table_delete.proofs.removal.+first_depth.Tie.{close}
 
 abbrev μ-first-depth : Measures 1 first-depth-kinds.ps ℕ
-μ-first-depth κs a = ?
+μ-first-depth κs a = a .1 .1 .1 .0
 
 abbrev first-depth-at : ℕ → In 1 first-depth-kinds.ps
 first-depth-at t =
@@ -33,7 +35,7 @@ first-depth-returns : (t : ℕ) → first-depth-lts.Need-returns (
   first-depth-below t,
   first-depth.Post,
 ) (first-depth-at t) first-depth.Post
-first-depth-returns t c = ?
+first-depth-returns t c = first-leaf _ _ _ (c .if1 .taken)
 
 -- src/removal.rt:38:9
 first-depth-page-of-requires : (t : ℕ) → first-depth-lts.Need-page-of-requires (
@@ -46,7 +48,7 @@ first-depth-page-of-requires : (t : ℕ) → first-depth-lts.Need-page-of-requir
   first-depth-below t,
   first-depth.Post,
 ) (first-depth-at t) first-depth.Post
-first-depth-page-of-requires t c κs = ?
+first-depth-page-of-requires t c κs = first-fits _ (c .before .before .pre .1)
 
 -- src/removal.rt:39:9
 first-depth-depth-requires : (t : ℕ) → first-depth-lts.Need-depth-requires (
@@ -59,7 +61,7 @@ first-depth-depth-requires : (t : ℕ) → first-depth-lts.Need-depth-requires (
   first-depth-below t,
   first-depth.Post,
 ) (first-depth-at t) first-depth.Post
-first-depth-depth-requires t c κs = ?
+first-depth-depth-requires t c κs = first-read _ _ (c .page-of .ensures) (c .before .if1 .left) (c .before .before .before .pre .1)
 
 -- src/removal.rt:40:9
 first-depth-pointer-requires : (t : ℕ) → first-depth-lts.Need-pointer-requires (
@@ -72,7 +74,7 @@ first-depth-pointer-requires : (t : ℕ) → first-depth-lts.Need-pointer-requir
   first-depth-below t,
   first-depth.Post,
 ) (first-depth-at t) first-depth.Post
-first-depth-pointer-requires t c κs = ?
+first-depth-pointer-requires t c κs = first-read _ _ (c .before .page-of .ensures) (c .before .before .if1 .left) (c .before .before .before .before .pre .1)
 
 -- src/removal.rt:41:34
 first-depth-sub-first-depth : (t : ℕ) → first-depth-lts.Need-sub-first-depth (
@@ -98,7 +100,7 @@ first-depth-first-depth-requires : (t : ℕ) → first-depth-lts.Need-first-dept
   first-depth-below t,
   first-depth.Post,
 ) (first-depth-at t) first-depth.Post
-first-depth-first-depth-requires t c κs = ?
+first-depth-first-depth-requires t c κs = (omega (arith, c .before .before .before .before .before .pre .0, c .before .before .before .if1 .left), first-down _ _ _ _ (c .before .before .page-of .ensures) (c .before .before .before .if1 .left) (c .before .before .before .before .before .pre .1) (c .before .depth .ensures) (c .pointer .ensures .0))
 
 -- src/removal.rt:31:1
 first-depth-returns-2 : (t : ℕ) → first-depth-lts.Need-returns-2 (
@@ -111,7 +113,7 @@ first-depth-returns-2 : (t : ℕ) → first-depth-lts.Need-returns-2 (
   first-depth-below t,
   first-depth.Post,
 ) (first-depth-at t) first-depth.Post
-first-depth-returns-2 t c = ?
+first-depth-returns-2 t c = first-post _ _ _ _ _ (c .before .before .before .page-of .ensures) (c .before .before .before .before .if1 .left) (c .before .before .before .before .before .before .pre .1) (c .before .before .depth .ensures) (c .before .pointer .ensures .0) (c .first-depth .ensures)
 
 pub +first-depth-spec : {M : Type 1} → statement M
 +first-depth-spec = close μ-first-depth λ t. first-depth-lts.spec (

@@ -1,5 +1,9 @@
+use Rattle.table_delete.proofs.SweepTurns.{Sweeping, sweep-start, sweep-joined, sweep-idle, sweep-out, sweep-read, sweep-back, sweep-put, sweep-step}
+use Rattle.table_delete.proofs.Sweeps.{back-fits, back-leaf, down-load, down-sweep, down-settle, back-up}
+use Prim.Native.Nat.{ℕ, _+_, _*_, _<_}
+use mathlib.Core.Path.{refl}
+use native.Mathlib.Omega.{arith}
 use borrow.Author.Needs.{needs}
-use Prim.Native.Nat.{ℕ, _<_}
 use borrow.Fn.Kinds.{In}
 use borrow.Fn.PlainCycle.{Measures, is, falls, and}
 use Rattle.table_delete.proofs.unwinding.back.Reads as back
@@ -21,10 +25,10 @@ use Rattle.table_delete.proofs.unwinding.+back+sweep.{statement}
 use Rattle.table_delete.proofs.unwinding.+back+sweep.Tie.{close}
 
 abbrev μ-back : Measures 1 back-kinds.ps ℕ
-μ-back κs a = ?
+μ-back κs a = 2 * a .1 .1 .1 .0
 
 abbrev μ-sweep : Measures 1 sweep-kinds.ps ℕ
-μ-sweep κs a = ?
+μ-sweep κs a = 2 * a .1 .1 .1 .0 + 1
 
 abbrev back-at : ℕ → In 1 back-kinds.ps
 back-at t = and 1 back-kinds.ps (is 1 back-kinds.ps μ-back t) back.Pre
@@ -51,7 +55,7 @@ back-step-requires : (t : ℕ) → back-lts.Need-step-requires (
   settle-reads.Asked,
   settle-reads.Learnt,
 ) (back-at t) back.Post
-back-step-requires t c κs = ?
+back-step-requires t c κs = back-fits _ (c .before .before .pre .1)
 
 -- src/unwinding.rt:23:9
 back-returns : (t : ℕ) → back-lts.Need-returns (
@@ -66,7 +70,7 @@ back-returns : (t : ℕ) → back-lts.Need-returns (
   settle-reads.Asked,
   settle-reads.Learnt,
 ) (back-at t) back.Post
-back-returns t c = ?
+back-returns t c = back-leaf _ _ _ (c .before .if1 .taken) (c .step .ensures)
 
 -- src/unwinding.rt:25:9
 back-page-of-requires : (t : ℕ) → back-lts.Need-page-of-requires (
@@ -81,7 +85,7 @@ back-page-of-requires : (t : ℕ) → back-lts.Need-page-of-requires (
   settle-reads.Asked,
   settle-reads.Learnt,
 ) (back-at t) back.Post
-back-page-of-requires t c κs = ?
+back-page-of-requires t c κs = back-fits _ (c .before .before .pre .1)
 
 -- src/unwinding.rt:26:9
 back-load-page-requires : (t : ℕ) → back-lts.Need-load-page-requires (
@@ -96,7 +100,7 @@ back-load-page-requires : (t : ℕ) → back-lts.Need-load-page-requires (
   settle-reads.Asked,
   settle-reads.Learnt,
 ) (back-at t) back.Post
-back-load-page-requires t c κs = ?
+back-load-page-requires t c κs = down-load _ _ (c .before .page-of .ensures) (c .before .before .if1 .left) (c .before .before .before .before .pre .1)
 
 -- src/unwinding.rt:28:39
 back-sub-sweep : (t : ℕ) → back-lts.Need-sub-sweep (
@@ -126,7 +130,7 @@ back-sweep-requires : (t : ℕ) → back-lts.Need-sweep-requires (
   settle-reads.Asked,
   settle-reads.Learnt,
 ) (back-at t) back.Post
-back-sweep-requires t c κs = ?
+back-sweep-requires t c κs = (let m = c .before .before .before .before .before .before .pre .0 in omega (arith, m, c .before .before .before .before .if1 .left), down-sweep _ _ _ (c .before .before .before .page-of .ensures) (c .before .before .before .before .if1 .left) (c .before .before .before .before .before .before .pre .1) (c .before .load-page .ensures) (omega (arith, c .before .before .before .before .before .before .fits .e)))
 
 -- src/unwinding.rt:29:22
 back-sub-settle : (t : ℕ) → back-lts.Need-sub-settle (
@@ -141,7 +145,7 @@ back-sub-settle : (t : ℕ) → back-lts.Need-sub-settle (
   settle-reads.Asked,
   settle-reads.Learnt,
 ) (back-at t) back.Post
-back-sub-settle t c = ?
+back-sub-settle t c = search needs
 
 -- src/unwinding.rt:29:5
 back-settle-requires : (t : ℕ) → back-lts.Need-settle-requires (
@@ -156,7 +160,7 @@ back-settle-requires : (t : ℕ) → back-lts.Need-settle-requires (
   settle-reads.Asked,
   settle-reads.Learnt,
 ) (back-at t) back.Post
-back-settle-requires t c κs = ?
+back-settle-requires t c κs = down-settle _ _ _ _ (c .before .before .before .before .before .before .before .page-of .ensures) (c .before .before .before .before .before .before .before .before .if1 .left) (c .before .before .before .before .before .before .before .before .before .before .pre .1) (c .before .before .before .before .before .load-page .ensures .count) refl (c .before .before .before .sweep .ensures)
 
 -- src/unwinding.rt:18:1
 back-same-length : (t : ℕ) → back-lts.Need-same-length (
@@ -171,7 +175,7 @@ back-same-length : (t : ℕ) → back-lts.Need-same-length (
   settle-reads.Asked,
   settle-reads.Learnt,
 ) (back-at t) back.Post
-back-same-length t c = ?
+back-same-length t c = search needs
 
 -- src/unwinding.rt:18:1
 back-returns-2 : (t : ℕ) → back-lts.Need-returns-2 (
@@ -186,13 +190,13 @@ back-returns-2 : (t : ℕ) → back-lts.Need-returns-2 (
   settle-reads.Asked,
   settle-reads.Learnt,
 ) (back-at t) back.Post
-back-returns-2 t c = ?
+back-returns-2 t c = back-up _ _ _ _ (c .before .before .before .before .before .before .before .before .before .before .page-of .ensures) (c .before .before .before .before .before .before .before .before .before .before .before .if1 .left) (c .before .before .before .before .before .before .before .before .before .before .before .before .before .pre .1) (c .before .before .before .before .before .before .before .before .load-page .ensures) _ _ (c .before .before .before .before .before .before .sweep .ensures) _ _ (c .before .before .settle .ensures)
 
 abbrev sweep-Inv-loop : sweep-lts.InvT-loop
-sweep-Inv-loop index₀ e pages rank left right r₀ i₀ at₀ s₀ index r i at s = ?
+sweep-Inv-loop index₀ e pages rank left right r₀ i₀ at₀ s₀ index r i at s = Sweeping e pages rank index₀ r₀ left right s₀ index r i at s
 
 abbrev sweep-μ-loop : sweep-lts.MeasureT-loop
-sweep-μ-loop index₀ e pages rank left right r₀ i₀ at₀ s₀ index r i at s = ?
+sweep-μ-loop index₀ e pages rank left right r₀ i₀ at₀ s₀ index r i at s = i
 
 -- src/unwinding.rt:50:5
 sweep-loop-holds : (t : ℕ) → sweep-lts.Need-loop-holds (
@@ -209,7 +213,7 @@ sweep-loop-holds : (t : ℕ) → sweep-lts.Need-loop-holds (
   put-reads.Asked,
   put-reads.Learnt,
 ) (sweep-at t) sweep.Post sweep-Inv-loop sweep-μ-loop
-sweep-loop-holds t c = ?
+sweep-loop-holds t c = sweep-start _ (c .before .pre .1)
 
 -- src/unwinding.rt:51:12
 sweep-idle-requires : (t : ℕ) → sweep-lts.Need-idle-requires (
@@ -243,7 +247,7 @@ sweep-joined-requires : (t : ℕ) → sweep-lts.Need-joined-requires (
   put-reads.Asked,
   put-reads.Learnt,
 ) (sweep-at t) sweep.Post sweep-Inv-loop sweep-μ-loop
-sweep-joined-requires t c κs = ?
+sweep-joined-requires t c κs = sweep-joined (c .before .before .before .loop .inv)
 
 -- src/unwinding.rt:53:13
 sweep-same-length : (t : ℕ) → sweep-lts.Need-same-length (
@@ -260,7 +264,7 @@ sweep-same-length : (t : ℕ) → sweep-lts.Need-same-length (
   put-reads.Asked,
   put-reads.Learnt,
 ) (sweep-at t) sweep.Post sweep-Inv-loop sweep-μ-loop
-sweep-same-length t c = ?
+sweep-same-length t c = search needs
 
 -- src/unwinding.rt:53:13
 sweep-returns : (t : ℕ) → sweep-lts.Need-returns (
@@ -277,7 +281,7 @@ sweep-returns : (t : ℕ) → sweep-lts.Need-returns (
   put-reads.Asked,
   put-reads.Learnt,
 ) (sweep-at t) sweep.Post sweep-Inv-loop sweep-μ-loop
-sweep-returns t c = ?
+sweep-returns t c = sweep-idle (c .before .before .before .before .loop .inv) _ (c .joined .ensures) (c .before .before .idle .ensures .yes (c .before .if1 .taken))
 
 -- src/unwinding.rt:55:9
 sweep-sub-i : (t : ℕ) → sweep-lts.Need-sub-i (
@@ -311,7 +315,7 @@ sweep-depth-requires : (t : ℕ) → sweep-lts.Need-depth-requires (
   put-reads.Asked,
   put-reads.Learnt,
 ) (sweep-at t) sweep.Post sweep-Inv-loop sweep-μ-loop
-sweep-depth-requires t c κs = ?
+sweep-depth-requires t c κs = sweep-read (c .before .before .before .loop .inv) (c .before .before .loop-test .taken)
 
 -- src/unwinding.rt:57:13
 sweep-pointer-requires : (t : ℕ) → sweep-lts.Need-pointer-requires (
@@ -328,7 +332,7 @@ sweep-pointer-requires : (t : ℕ) → sweep-lts.Need-pointer-requires (
   put-reads.Asked,
   put-reads.Learnt,
 ) (sweep-at t) sweep.Post sweep-Inv-loop sweep-μ-loop
-sweep-pointer-requires t c κs = ?
+sweep-pointer-requires t c κs = sweep-read (c .before .before .before .before .loop .inv) (c .before .before .before .loop-test .taken)
 
 -- src/unwinding.rt:58:13
 sweep-back-requires : (t : ℕ) → sweep-lts.Need-back-requires (
@@ -345,7 +349,7 @@ sweep-back-requires : (t : ℕ) → sweep-lts.Need-back-requires (
   put-reads.Asked,
   put-reads.Learnt,
 ) (sweep-at t) sweep.Post sweep-Inv-loop sweep-μ-loop
-sweep-back-requires t c κs = ?
+sweep-back-requires t c κs = (let m = c .before .before .before .before .before .before .before .before .pre .0 in omega (arith, m), sweep-back (c .before .before .before .before .before .before .loop .inv) (c .before .before .before .before .before .loop-test .taken) _ _ (c .before .before .depth .ensures) (c .before .pointer .ensures))
 
 -- src/unwinding.rt:60:13
 sweep-put-requires : (t : ℕ) → sweep-lts.Need-put-requires (
@@ -362,7 +366,7 @@ sweep-put-requires : (t : ℕ) → sweep-lts.Need-put-requires (
   put-reads.Asked,
   put-reads.Learnt,
 ) (sweep-at t) sweep.Post sweep-Inv-loop sweep-μ-loop
-sweep-put-requires t c κs = ?
+sweep-put-requires t c κs = sweep-put (c .before .before .before .before .before .before .before .before .before .loop .inv) (c .before .before .before .before .before .before .before .before .loop-test .taken)
 
 -- src/unwinding.rt:50:5
 sweep-loop-less : (t : ℕ) → sweep-lts.Need-loop-less (
@@ -379,7 +383,7 @@ sweep-loop-less : (t : ℕ) → sweep-lts.Need-loop-less (
   put-reads.Asked,
   put-reads.Learnt,
 ) (sweep-at t) sweep.Post sweep-Inv-loop sweep-μ-loop
-sweep-loop-less t c = ?
+sweep-loop-less t c = search needs
 
 -- src/unwinding.rt:50:5
 sweep-loop-again : (t : ℕ) → sweep-lts.Need-loop-again (
@@ -396,7 +400,7 @@ sweep-loop-again : (t : ℕ) → sweep-lts.Need-loop-again (
   put-reads.Asked,
   put-reads.Learnt,
 ) (sweep-at t) sweep.Post sweep-Inv-loop sweep-μ-loop
-sweep-loop-again t c = ?
+sweep-loop-again t c = sweep-step (c .before .before .before .before .before .before .before .before .before .before .before .loop .inv) (c .before .before .before .before .before .before .before .before .before .before .loop-test .taken) _ _ (c .before .before .before .before .before .before .before .depth .ensures) (c .before .before .before .before .before .before .pointer .ensures) _ _ (c .before .before .before .before .back .ensures) _ (c .before .put .ensures)
 
 -- src/unwinding.rt:64:9
 sweep-joined-requires-2 : (t : ℕ) → sweep-lts.Need-joined-requires-2 (
@@ -413,7 +417,7 @@ sweep-joined-requires-2 : (t : ℕ) → sweep-lts.Need-joined-requires-2 (
   put-reads.Asked,
   put-reads.Learnt,
 ) (sweep-at t) sweep.Post sweep-Inv-loop sweep-μ-loop
-sweep-joined-requires-2 t c κs = ?
+sweep-joined-requires-2 t c κs = sweep-joined (c .before .loop .inv)
 
 -- src/unwinding.rt:33:1
 sweep-same-length-2 : (t : ℕ) → sweep-lts.Need-same-length-2 (
@@ -430,7 +434,7 @@ sweep-same-length-2 : (t : ℕ) → sweep-lts.Need-same-length-2 (
   put-reads.Asked,
   put-reads.Learnt,
 ) (sweep-at t) sweep.Post sweep-Inv-loop sweep-μ-loop
-sweep-same-length-2 t c = ?
+sweep-same-length-2 t c = search needs
 
 -- src/unwinding.rt:33:1
 sweep-returns-2 : (t : ℕ) → sweep-lts.Need-returns-2 (
@@ -447,7 +451,7 @@ sweep-returns-2 : (t : ℕ) → sweep-lts.Need-returns-2 (
   put-reads.Asked,
   put-reads.Learnt,
 ) (sweep-at t) sweep.Post sweep-Inv-loop sweep-μ-loop
-sweep-returns-2 t c = ?
+sweep-returns-2 t c = sweep-out (c .before .before .loop .inv) _ (c .joined2 .ensures) (omega (arith, c .before .loop-test .left))
 
 pub +back+sweep-spec : {M : Type 1} → statement M
 +back+sweep-spec = close μ-back μ-sweep (λ t. back-lts.spec (
