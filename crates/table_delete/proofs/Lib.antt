@@ -1,6 +1,8 @@
 pub mod EntryTurns
 pub mod Following
 pub mod Frames
+pub mod RemovalSteps
+pub mod Removals
 pub mod RowChanges
 pub mod Settling
 pub mod SweepTurns

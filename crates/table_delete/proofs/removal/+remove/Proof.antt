@@ -1,3 +1,7 @@
+use Rattle.table_delete.proofs.RemovalSteps.{remove-locate, found-read, remove-few, remove-down, remove-sweep, remove-settle, remove-post}
+use Rattle.table_delete.proofs.Removals.{remove-leaf}
+use Rattle.table_delete.proofs.Sweeps.{back-fits}
+use native.Mathlib.Omega.{arith}
 use borrow.Author.Needs.{needs}
 use Prim.Native.Nat.{ℕ, _<_}
 use borrow.Fn.Kinds.{In}
@@ -17,7 +21,7 @@ use Rattle.table_delete.proofs.removal.+remove.{statement}
 use Rattle.table_delete.proofs.removal.+remove.Tie.{close}
 
 abbrev μ-remove : Measures 1 remove-kinds.ps ℕ
-μ-remove κs a = ?
+μ-remove κs a = a .1 .1 .1 .0
 
 abbrev remove-at : ℕ → In 1 remove-kinds.ps
 remove-at t = and 1 remove-kinds.ps (is 1 remove-kinds.ps μ-remove t) remove.Pre
@@ -69,7 +73,7 @@ remove-returns : (t : ℕ) → remove-lts.Need-returns (
   settle-reads.Asked,
   settle-reads.Learnt,
 ) (remove-at t) remove.Post
-remove-returns t c = ?
+remove-returns t c = remove-leaf _ _ _ _ _ _ _ (c .before .if1 .taken) (c .strike .ensures)
 
 -- src/removal.rt:102:9
 remove-page-of-requires : (t : ℕ) → remove-lts.Need-page-of-requires (
@@ -92,7 +96,7 @@ remove-page-of-requires : (t : ℕ) → remove-lts.Need-page-of-requires (
   settle-reads.Asked,
   settle-reads.Learnt,
 ) (remove-at t) remove.Post
-remove-page-of-requires t c κs = ?
+remove-page-of-requires t c κs = back-fits _ (c .before .before .pre .1 .back)
 
 -- src/removal.rt:103:41
 remove-sub-locate : (t : ℕ) → remove-lts.Need-sub-locate (
@@ -138,7 +142,7 @@ remove-locate-requires : (t : ℕ) → remove-lts.Need-locate-requires (
   settle-reads.Asked,
   settle-reads.Learnt,
 ) (remove-at t) remove.Post
-remove-locate-requires t c κs = ?
+remove-locate-requires t c κs = remove-locate _ _ (c .before .page-of .ensures) (c .before .before .if1 .left) (c .before .before .before .before .pre .1)
 
 -- src/removal.rt:111:9
 remove-sub-remove : (t : ℕ) → remove-lts.Need-sub-remove (
@@ -184,7 +188,7 @@ remove-depth-requires : (t : ℕ) → remove-lts.Need-depth-requires (
   settle-reads.Asked,
   settle-reads.Learnt,
 ) (remove-at t) remove.Post
-remove-depth-requires t c κs = ?
+remove-depth-requires t c κs = found-read (c .before .before .before .locate .ensures) (remove-few _ _ (c .before .before .before .before .before .page-of .ensures) (c .before .before .before .before .before .before .if1 .left) (c .before .before .before .before .before .before .before .before .pre .1)) (omega (arith, c .before .before .before .before .before .before .before .before .fits .e))
 
 -- src/removal.rt:113:9
 remove-pointer-requires : (t : ℕ) → remove-lts.Need-pointer-requires (
@@ -207,7 +211,7 @@ remove-pointer-requires : (t : ℕ) → remove-lts.Need-pointer-requires (
   settle-reads.Asked,
   settle-reads.Learnt,
 ) (remove-at t) remove.Post
-remove-pointer-requires t c κs = ?
+remove-pointer-requires t c κs = found-read (c .before .before .before .before .locate .ensures) (remove-few _ _ (c .before .before .before .before .before .before .page-of .ensures) (c .before .before .before .before .before .before .before .if1 .left) (c .before .before .before .before .before .before .before .before .before .pre .1)) (omega (arith, c .before .before .before .before .before .before .before .before .before .fits .e))
 
 -- src/removal.rt:107:9
 remove-remove-requires : (t : ℕ) → remove-lts.Need-remove-requires (
@@ -230,7 +234,7 @@ remove-remove-requires : (t : ℕ) → remove-lts.Need-remove-requires (
   settle-reads.Asked,
   settle-reads.Learnt,
 ) (remove-at t) remove.Post
-remove-remove-requires t c κs = ?
+remove-remove-requires t c κs = (omega (arith, c .before .before .before .before .before .before .before .before .before .before .pre .0, c .before .before .before .before .before .before .before .before .if1 .left), remove-down _ _ (c .before .before .before .before .before .before .before .page-of .ensures) (c .before .before .before .before .before .before .before .before .if1 .left) (c .before .before .before .before .before .before .before .before .before .before .pre .1) (c .before .before .before .before .before .locate .ensures) _ _ (c .before .depth .ensures) (c .pointer .ensures))
 
 -- src/removal.rt:121:25
 remove-add-put : (t : ℕ) → remove-lts.Need-add-put (
@@ -253,7 +257,7 @@ remove-add-put : (t : ℕ) → remove-lts.Need-add-put (
   settle-reads.Asked,
   settle-reads.Learnt,
 ) (remove-at t) remove.Post
-remove-add-put t c = ?
+remove-add-put t c = let k = found-read (c .before .before .before .before .before .before .before .before .locate .ensures) (remove-few _ _ (c .before .before .before .before .before .before .before .before .before .before .page-of .ensures) (c .before .before .before .before .before .before .before .before .before .before .before .if1 .left) (c .before .before .before .before .before .before .before .before .before .before .before .before .before .pre .1)) (omega (arith, c .before .before .before .before .before .before .before .before .before .before .before .before .before .fits .e)) in omega (arith, k .0, k .1)
 
 -- src/removal.rt:121:9
 remove-put-requires : (t : ℕ) → remove-lts.Need-put-requires (
@@ -276,7 +280,7 @@ remove-put-requires : (t : ℕ) → remove-lts.Need-put-requires (
   settle-reads.Asked,
   settle-reads.Learnt,
 ) (remove-at t) remove.Post
-remove-put-requires t c κs = ?
+remove-put-requires t c κs = let k = found-read (c .before .before .before .before .before .before .before .before .locate .ensures) (remove-few _ _ (c .before .before .before .before .before .before .before .before .before .before .page-of .ensures) (c .before .before .before .before .before .before .before .before .before .before .before .if1 .left) (c .before .before .before .before .before .before .before .before .before .before .before .before .before .pre .1)) (omega (arith, c .before .before .before .before .before .before .before .before .before .before .before .before .before .fits .e)) in (omega arith, omega (arith, k .0), k .1)
 
 -- src/removal.rt:123:39
 remove-sub-sweep : (t : ℕ) → remove-lts.Need-sub-sweep (
@@ -322,7 +326,7 @@ remove-sweep-requires : (t : ℕ) → remove-lts.Need-sweep-requires (
   settle-reads.Asked,
   settle-reads.Learnt,
 ) (remove-at t) remove.Post
-remove-sweep-requires t c κs = ?
+remove-sweep-requires t c κs = remove-sweep _ _ (c .before .before .before .before .before .before .before .before .before .before .before .before .page-of .ensures) (c .before .before .before .before .before .before .before .before .before .before .before .before .before .if1 .left) (c .before .before .before .before .before .before .before .before .before .before .before .before .before .before .before .pre .1) (c .before .before .before .before .before .before .before .before .before .before .locate .ensures) _ _ (c .before .before .before .before .before .before .depth .ensures) (c .before .before .before .before .before .pointer .ensures) (omega (arith, c .before .before .before .before .before .before .before .before .before .before .before .before .before .before .before .fits .e)) _ _ (c .before .before .before .before .remove .ensures) _ (c .before .put .ensures)
 
 -- src/removal.rt:124:22
 remove-sub-settle : (t : ℕ) → remove-lts.Need-sub-settle (
@@ -345,7 +349,7 @@ remove-sub-settle : (t : ℕ) → remove-lts.Need-sub-settle (
   settle-reads.Asked,
   settle-reads.Learnt,
 ) (remove-at t) remove.Post
-remove-sub-settle t c = ?
+remove-sub-settle t c = omega (arith, c .before .before .before .before .before .before .before .before .before .before .before .before .before .before .before .before .before .if1 .left)
 
 -- src/removal.rt:124:5
 remove-settle-requires : (t : ℕ) → remove-lts.Need-settle-requires (
@@ -368,7 +372,7 @@ remove-settle-requires : (t : ℕ) → remove-lts.Need-settle-requires (
   settle-reads.Asked,
   settle-reads.Learnt,
 ) (remove-at t) remove.Post
-remove-settle-requires t c κs = ?
+remove-settle-requires t c κs = remove-settle _ _ (c .before .before .before .before .before .before .before .before .before .before .before .before .before .before .before .before .page-of .ensures) (c .before .before .before .before .before .before .before .before .before .before .before .before .before .before .before .before .before .if1 .left) (c .before .before .before .before .before .before .before .before .before .before .before .before .before .before .before .before .before .before .before .pre .1) (c .before .before .before .before .before .before .before .before .before .before .before .before .before .before .locate .ensures) _ _ (c .before .before .before .before .before .before .before .before .before .before .depth .ensures) (c .before .before .before .before .before .before .before .before .before .pointer .ensures) (omega (arith, c .before .before .before .before .before .before .before .before .before .before .before .before .before .before .before .before .before .before .before .fits .e)) _ _ (c .before .before .before .before .before .before .before .before .remove .ensures) _ (c .before .before .before .before .before .put .ensures) _ _ (c .before .before .before .sweep .ensures)
 
 -- src/removal.rt:83:1
 remove-same-length : (t : ℕ) → remove-lts.Need-same-length (
@@ -391,7 +395,7 @@ remove-same-length : (t : ℕ) → remove-lts.Need-same-length (
   settle-reads.Asked,
   settle-reads.Learnt,
 ) (remove-at t) remove.Post
-remove-same-length t c = ?
+remove-same-length t c = search needs
 
 -- src/removal.rt:83:1
 remove-returns-2 : (t : ℕ) → remove-lts.Need-returns-2 (
@@ -414,7 +418,7 @@ remove-returns-2 : (t : ℕ) → remove-lts.Need-returns-2 (
   settle-reads.Asked,
   settle-reads.Learnt,
 ) (remove-at t) remove.Post
-remove-returns-2 t c = ?
+remove-returns-2 t c = remove-post _ _ (c .before .before .before .before .before .before .before .before .before .before .before .before .before .before .before .before .before .before .before .page-of .ensures) (c .before .before .before .before .before .before .before .before .before .before .before .before .before .before .before .before .before .before .before .before .if1 .left) (c .before .before .before .before .before .before .before .before .before .before .before .before .before .before .before .before .before .before .before .before .before .before .pre .1) (c .before .before .before .before .before .before .before .before .before .before .before .before .before .before .before .before .before .locate .ensures) _ _ (c .before .before .before .before .before .before .before .before .before .before .before .before .before .depth .ensures) (c .before .before .before .before .before .before .before .before .before .before .before .before .pointer .ensures) (omega (arith, c .before .before .before .before .before .before .before .before .before .before .before .before .before .before .before .before .before .before .before .before .before .before .fits .e)) _ _ (c .before .before .before .before .before .before .before .before .before .before .before .remove .ensures) _ (c .before .before .before .before .before .before .before .before .put .ensures) _ _ (c .before .before .before .before .before .before .sweep .ensures) _ _ (c .before .before .settle .ensures)
 
 pub +remove-spec : {M : Type 1} → statement M
 +remove-spec = close μ-remove λ t. remove-lts.spec (

@@ -1,3 +1,12 @@
+use Rattle.table_delete.proofs.Removals.{locate-load, locate-seek, locate-after}
+use Rattle.table_delete.specs.Removing.{followingAt}
+use Rattle.index_table.specs.Layout.{Ref}
+use lib.ListN.{drop}
+use Prim.Native.Nat.{ℕ}
+use mathlib.Core.List.{List}
+use mathlib.Core.Path.{ap₂, _∙_}
+use native.Mathlib.Numerals.{add-one}
+use native.Mathlib.Omega.{arith}
 use borrow.Author.Needs.{needs}
 use Rattle.table_delete.proofs.removal.locate.Statement.{statement}
 use Rattle.table_delete.proofs.removal.locate.Tie as tie
@@ -9,23 +18,23 @@ use Rattle.table_search.proofs.seek.Reads as seek-reads
 
 -- src/removal.rt:72:9
 load-page-requires : tie.Need-load-page-requires
-load-page-requires c κs = ?
+load-page-requires c κs = locate-load (c .before .pre)
 
 -- src/removal.rt:73:9
 seek-requires : tie.Need-seek-requires
-seek-requires c κs = ?
+seek-requires c κs = locate-seek (c .before .before .pre)
 
 -- src/removal.rt:74:53
 add-after : tie.Need-add-after
-add-after c = search needs
+add-after c = omega (arith, c .before .seek .ensures .inside, locate-load (c .before .before .before .before .pre) .1, c .before .before .before .before .fits .e)
 
 -- src/removal.rt:74:9
 after-requires : tie.Need-after-requires
-after-requires c κs = ?
+after-requires c κs = locate-after (c .before .before .before .before .pre) _ (c .before .before .load-page .ensures) (omega (arith, c .before .before .before .before .fits .e))
 
 -- src/removal.rt:56:1
 returns : tie.Need-returns
-returns c = ?
+returns c = record { row = c .before .before .before .load-page .ensures; stopped = c .before .before .seek .ensures; following = c .after .ensures ∙ ap₂ (λ (k : ℕ) (zs : List Ref). followingAt _ _ _ (drop k zs)) (add-one _) (c .before .before .before .load-page .ensures .entries) }
 
 pub locate-spec : {M : Type 1} → statement M
 locate-spec =
