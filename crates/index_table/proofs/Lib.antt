@@ -14,3 +14,4 @@ pub mod Writing
 pub mod RowWriting
 pub mod StandingLaws
 pub mod NumberedPages
+pub mod LoadedRows

@@ -1,7 +1,7 @@
 -- When a part of a row can be stored as a page, and a part of a page loaded into a row. Assumes nothing.
-use mathlib.Core.List.{List}
-use Prim.Native.Nat.{ℕ, _+_, _-_, _≤_}
-use lib.ListN.{length}
+use mathlib.Core.List.{List, _++_}
+use Prim.Native.Nat.{ℕ, suc, _+_, _-_, _≤_, _<_}
+use lib.ListN.{length, take, drop}
 use Rattle.page_tree.specs.Row.{partOf}
 use Rattle.page_tree.specs.declared.Row.{Row}
 use Rattle.index_table.specs.Layout.{Within, layoutOf, Fitting}
@@ -20,3 +20,13 @@ pub record Loadable (e : ℕ) (b : List ℕ) (p : ℕ) (row : Row) (from to : �
   pub order : from ≤ to
   pub inside : to ≤ length (pagesAt (layoutOf e) b p)
   pub room : row .count + (to - from) ≤ 319
+
+-- A list with others in the place of its element i.
+abbrev pub splicedAt : {A : Type 0} → ℕ → List A → List A → List A
+splicedAt i ys xs = take i xs ++ ys ++ drop (suc i) xs
+
+pub record Spliceable (e : ℕ) (b : List ℕ) (p at : ℕ) (parts : Row) : Type 0 where
+  pub within : Within (layoutOf e) b p
+  pub few : length (pagesAt (layoutOf e) b p) ≤ e
+  pub inside : at < length (pagesAt (layoutOf e) b p)
+  pub room : parts .count ≤ 65

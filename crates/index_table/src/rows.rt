@@ -1,12 +1,12 @@
 // Pages of the index table as rows.
 ghost use mathlib.Core.Path.{_≡_};
 ghost use mathlib.Core.List.{_++_};
-ghost use Prim.Native.Nat.{_+_, _-_, _≤_};
+ghost use Prim.Native.Nat.{suc, _+_, _-_, _≤_};
 ghost use lib.ListN.{length};
 ghost use lib.Seq.{slice};
 ghost use Rattle.index_table.specs.Layout.{Within, layoutOf};
 ghost use Rattle.index_table.specs.Pages.{pagesAt};
-ghost use Rattle.index_table.specs.Storing.{Loadable};
+ghost use Rattle.index_table.specs.Storing.{Loadable, Spliceable, splicedAt};
 ghost use Rattle.page_tree.specs.Row.{rowOf, Holds};
 use crate::layout::PageNo;
 use crate::layout::count;
@@ -42,4 +42,16 @@ pub fn load_page(index: &[u8], e: u8, page: PageNo) -> Row
 {
     let n = wide(count(index, e, page));
     append_page(Row::new(), index, e, page, 0, n)
+}
+
+// The entries of a page with those of a row in the place of entry `at`.
+pub fn splice_page(index: &[u8], e: u8, page: PageNo, at: usize, parts: Row) -> Row
+    requires { ⌜ Spliceable e (now index) (page .0) at parts ⌝ }
+    ensures { λ r. ⌜ Holds r (at + parts .count + (length (pagesAt (layoutOf e) (now (index .entry)) (page .0)) - suc at)) (splicedAt at (rowOf parts) (pagesAt (layoutOf e) (now (index .entry)) (page .0))) ⌝ }
+{
+    let n = wide(count(index, e, page));
+    let c = parts.count;
+    let first = append_page(Row::new(), index, e, page, 0, at);
+    let more = first.append(parts, 0, c);
+    append_page(more, index, e, page, at + 1, n)
 }
