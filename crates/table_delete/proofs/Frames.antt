@@ -25,8 +25,7 @@ pub linked-stays : (L : Layout) (P n : ℕ) (b b′ : List ℕ) (x : Ref) → Ke
 unfolding met
 linked-stays L P zero b b′ x h g = g
 linked-stays L P (suc n) b b′ x h g =
-    let e : pageBytes L b′ (x .1) ≡ pageBytes L b (x .1) = h (x .1) (met-self n (pagesAt L b) x) in
-    (
+    let e : pageBytes L b′ (x .1) ≡ pageBytes L b (x .1) = h (x .1) (met-self n (pagesAt L b) x) in (
       record { number = g .0 .number; level = rw e (g .0 .level); some = rw e (g .0 .some); few = rw e (g .0 .few) },
       rw e (g .1),
       rw e (each-linked L P n b b′ (linked-stays L P n b b′) (pagesAt L b (x .1)) (λ q k. h q (omega arith)) (g .2)),

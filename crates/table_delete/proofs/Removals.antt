@@ -84,6 +84,16 @@ module _ {e P n : ℕ} {b : List ℕ} {x : Ref} {w key position : ℕ} (h : Remo
     full = ap length (r .entries) ∙ sym (r .count);
   }
 
+-- What is located.
+pub locate-post : {e n : ℕ} {b : List ℕ} {page w key position τ ν : ℕ} (row : Rattle.page_tree.specs.declared.Row.Row) (spot : Rattle.table_search.specs.declared.Spot.Spot) (next : ℕ)
+    → Holds row (length (pagesAt (layoutOf e) b page)) (pagesAt (layoutOf e) b page) → Stopped w key position τ (pagesAt (layoutOf e) b page) spot
+    → next ≡ followingAt n (pagesAt (layoutOf e) b) ν (drop (spot .at + 1) (rowOf row)) → LocatePost e n b page w key position τ ν (record { row = row; spot = spot; next = next })
+locate-post {e} {n} {b} {page} {w} {key} {position} {τ} {ν} row spot next r s f = record {
+  row = r;
+  stopped = s;
+  following = f ∙ ap₂ (λ (k : ℕ) (zs : List Ref). followingAt n (pagesAt (layoutOf e) b) ν (drop k zs)) (add-one (spot .at)) (r .entries);
+}
+
 -- ---- the entry found
 
 module _ {e P n : ℕ} {b : List ℕ} {x : Ref} {w key position τ ν : ℕ} {l : Place} (h : RemovePre e P (suc n) b x w key position) (a : LocatePost e n b (x .1) w key position τ ν l) where

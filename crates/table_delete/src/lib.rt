@@ -1,10 +1,12 @@
 // Deletion in the pages of a sound tree: figure 11 over the whole list, across pages.
 ghost use mathlib.Core.Path.{_≡_};
 ghost use Rattle.table_delete.specs.Taking.{LowerPre, LowerPost, TakePre, TakePost};
+
 pub mod entries;
 pub mod removal;
 pub mod rows;
 pub mod unwinding;
+
 use crate::removal::remove;
 use crate::rows::page_of;
 use crate::rows::pointer_to;
@@ -38,7 +40,15 @@ fn lower(index: &mut [u8], e: u8, pages: u16, level: u8, page: PageNo) -> Root
 }
 
 // A key is taken out of the tree below a root, which holds it: the root that is left.
-pub fn take_out(index: &mut [u8], e: u8, pages: u16, level: u8, root: PageNo, w: u64, key: u64) -> Root
+pub fn take_out(
+    index: &mut [u8],
+    e: u8,
+    pages: u16,
+    level: u8,
+    root: PageNo,
+    w: u64,
+    key: u64,
+) -> Root
     requires { ⌜ TakePre (now index) e pages level (root .0) w key ⌝ }
     ensures { λ r. ⌜ TakePost (now (index .entry)) e pages level (root .0) w key (now (index .exit)) r ⌝ }
 {

@@ -100,7 +100,19 @@ pub fn remove(
         return strike(d, trail, next);
     }
     let page = page_of(p);
-    let place = locate(index, e, pages, rank - 1, d, page, w, key, position, trail, next);
+    let place = locate(
+        index,
+        e,
+        pages,
+        rank - 1,
+        d,
+        page,
+        w,
+        key,
+        position,
+        trail,
+        next,
+    );
     let row = place.row;
     let spot = place.spot;
     let i = spot.at;

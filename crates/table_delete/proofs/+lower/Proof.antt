@@ -1,3 +1,5 @@
+use Rattle.table_delete.proofs.Lowering.{lower-within, lower-leaf, lower-stop, lower-next, lower-post}
+use native.Mathlib.Omega.{arith}
 use borrow.Author.Needs.{needs}
 use Prim.Native.Nat.{ℕ, _<_}
 use borrow.Fn.Kinds.{In}
@@ -12,7 +14,7 @@ use Rattle.table_delete.proofs.+lower.{statement}
 use Rattle.table_delete.proofs.+lower.Tie.{close}
 
 abbrev μ-lower : Measures 1 lower-kinds.ps ℕ
-μ-lower κs a = ?
+μ-lower κs a = a .1 .1 .1 .0
 
 abbrev lower-at : ℕ → In 1 lower-kinds.ps
 lower-at t = and 1 lower-kinds.ps (is 1 lower-kinds.ps μ-lower t) lower.Pre
@@ -31,7 +33,7 @@ lower-returns : (t : ℕ) → lower-lts.Need-returns (
   lower-below t,
   lower.Post,
 ) (lower-at t) lower.Post
-lower-returns t c = ?
+lower-returns t c = lower-leaf _ _ (c .if1 .taken) (c .before .before .pre .1)
 
 -- src/lib.rt:29:8
 lower-count-requires : (t : ℕ) → lower-lts.Need-count-requires (
@@ -44,7 +46,7 @@ lower-count-requires : (t : ℕ) → lower-lts.Need-count-requires (
   lower-below t,
   lower.Post,
 ) (lower-at t) lower.Post
-lower-count-requires t c κs = ?
+lower-count-requires t c κs = lower-within (c .before .before .before .pre .1)
 
 -- src/lib.rt:30:9
 lower-same-length : (t : ℕ) → lower-lts.Need-same-length (
@@ -57,7 +59,7 @@ lower-same-length : (t : ℕ) → lower-lts.Need-same-length (
   lower-below t,
   lower.Post,
 ) (lower-at t) lower.Post
-lower-same-length t c = ?
+lower-same-length t c = search needs
 
 -- src/lib.rt:30:9
 lower-returns-2 : (t : ℕ) → lower-lts.Need-returns-2 (
@@ -70,7 +72,7 @@ lower-returns-2 : (t : ℕ) → lower-lts.Need-returns-2 (
   lower-below t,
   lower.Post,
 ) (lower-at t) lower.Post
-lower-returns-2 t c = ?
+lower-returns-2 t c = lower-stop _ _ (c .before .before .before .if1 .left) (c .before .before .before .before .before .pre .1) (c .before .count .ensures) (c .if2 .taken)
 
 -- src/lib.rt:35:9
 lower-child-requires : (t : ℕ) → lower-lts.Need-child-requires (
@@ -83,7 +85,7 @@ lower-child-requires : (t : ℕ) → lower-lts.Need-child-requires (
   lower-below t,
   lower.Post,
 ) (lower-at t) lower.Post
-lower-child-requires t c κs = ?
+lower-child-requires t c κs = (lower-within (c .before .before .before .before .before .before .pre .1), omega (arith, c .before .before .before .before .before .before .pre .1 .sized .some, c .before .before .before .before .before .before .pre .1 .sized .few))
 
 -- src/lib.rt:36:5
 lower-free-page-requires : (t : ℕ) → lower-lts.Need-free-page-requires (
@@ -96,7 +98,7 @@ lower-free-page-requires : (t : ℕ) → lower-lts.Need-free-page-requires (
   lower-below t,
   lower.Post,
 ) (lower-at t) lower.Post
-lower-free-page-requires t c κs = ?
+lower-free-page-requires t c κs = lower-within (c .before .before .before .before .before .before .before .before .pre .1)
 
 -- src/lib.rt:37:28
 lower-sub-lower : (t : ℕ) → lower-lts.Need-sub-lower (
@@ -122,7 +124,7 @@ lower-lower-requires : (t : ℕ) → lower-lts.Need-lower-requires (
   lower-below t,
   lower.Post,
 ) (lower-at t) lower.Post
-lower-lower-requires t c κs = ?
+lower-lower-requires t c κs = (omega (arith, c .before .before .before .before .before .before .before .before .before .before .before .before .pre .0, c .before .before .before .before .before .before .before .before .before .before .if1 .left), lower-next _ _ _ (c .before .before .before .before .before .before .before .before .before .before .if1 .left) (c .before .before .before .before .before .before .before .before .before .before .before .before .pre .1) (c .before .before .before .before .before .before .before .before .count .ensures) (omega (arith, c .before .before .before .before .before .before .before .if2 .left)) (c .before .before .before .before .before .child .ensures) (c .before .before .before .free-page .ensures))
 
 -- src/lib.rt:19:1
 lower-same-length-2 : (t : ℕ) → lower-lts.Need-same-length-2 (
@@ -135,7 +137,7 @@ lower-same-length-2 : (t : ℕ) → lower-lts.Need-same-length-2 (
   lower-below t,
   lower.Post,
 ) (lower-at t) lower.Post
-lower-same-length-2 t c = ?
+lower-same-length-2 t c = search needs
 
 -- src/lib.rt:19:1
 lower-returns-3 : (t : ℕ) → lower-lts.Need-returns-3 (
@@ -148,7 +150,7 @@ lower-returns-3 : (t : ℕ) → lower-lts.Need-returns-3 (
   lower-below t,
   lower.Post,
 ) (lower-at t) lower.Post
-lower-returns-3 t c = ?
+lower-returns-3 t c = lower-post _ _ _ (c .before .before .before .before .before .before .before .before .before .before .before .before .before .if1 .left) (c .before .before .before .before .before .before .before .before .before .before .before .before .before .before .before .pre .1) (c .before .before .before .before .before .before .before .before .before .before .before .count .ensures) (omega (arith, c .before .before .before .before .before .before .before .before .before .before .if2 .left)) (c .before .before .before .before .before .before .before .before .child .ensures) (c .before .before .before .before .before .before .free-page .ensures) _ _ (c .before .before .lower .ensures)
 
 pub +lower-spec : {M : Type 1} → statement M
 +lower-spec = close μ-lower λ t. lower-lts.spec (

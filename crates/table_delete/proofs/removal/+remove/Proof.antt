@@ -50,7 +50,7 @@ remove-strike-requires : (t : ℕ) → remove-lts.Need-strike-requires (
   settle-reads.Asked,
   settle-reads.Learnt,
 ) (remove-at t) remove.Post
-remove-strike-requires t c κs = ?
+remove-strike-requires t c κs = search needs
 
 -- src/removal.rt:100:9
 remove-returns : (t : ℕ) → remove-lts.Need-returns (

@@ -1,11 +1,4 @@
-use Rattle.table_delete.proofs.Removals.{locate-load, locate-seek, locate-after}
-use Rattle.table_delete.specs.Removing.{followingAt}
-use Rattle.index_table.specs.Layout.{Ref}
-use lib.ListN.{drop}
-use Prim.Native.Nat.{ℕ}
-use mathlib.Core.List.{List}
-use mathlib.Core.Path.{ap₂, _∙_}
-use native.Mathlib.Numerals.{add-one}
+use Rattle.table_delete.proofs.Removals.{locate-load, locate-seek, locate-after, locate-post}
 use native.Mathlib.Omega.{arith}
 use borrow.Author.Needs.{needs}
 use Rattle.table_delete.proofs.removal.locate.Statement.{statement}
@@ -34,7 +27,7 @@ after-requires c κs = locate-after (c .before .before .before .before .pre) _ (
 
 -- src/removal.rt:56:1
 returns : tie.Need-returns
-returns c = record { row = c .before .before .before .load-page .ensures; stopped = c .before .before .seek .ensures; following = c .after .ensures ∙ ap₂ (λ (k : ℕ) (zs : List Ref). followingAt _ _ _ (drop k zs)) (add-one _) (c .before .before .before .load-page .ensures .entries) }
+returns c = locate-post _ _ _ (c .before .before .before .load-page .ensures) (c .before .before .seek .ensures) (c .after .ensures)
 
 pub locate-spec : {M : Type 1} → statement M
 locate-spec =

@@ -230,7 +230,7 @@ sweep-idle-requires : (t : ℕ) → sweep-lts.Need-idle-requires (
   put-reads.Asked,
   put-reads.Learnt,
 ) (sweep-at t) sweep.Post sweep-Inv-loop sweep-μ-loop
-sweep-idle-requires t c κs = ?
+sweep-idle-requires t c κs = search needs
 
 -- src/unwinding.rt:52:17
 sweep-joined-requires : (t : ℕ) → sweep-lts.Need-joined-requires (
