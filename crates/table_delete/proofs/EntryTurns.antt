@@ -10,7 +10,6 @@ use Rattle.page_tree.specs.declared.Unwind.{Unwind}
 use Rattle.page_tree.specs.declared.Unwind.the-variants.{Idle, Give, Clear}
 use Rattle.page_tree.specs.OffPages.{stepEntry, strike}
 use Rattle.index_table.specs.Pages.{leafOf}
-use Rattle.table_delete.specs.declared.entries.Remnant.{Remnant}
 use Rattle.table_delete.specs.Entries.{Turned}
 
 module _ (s : Unwind) (d p : ℕ) (fits : p < 65536) where

@@ -1,18 +1,17 @@
 -- The depth that follows on level 0: the leftmost way down from the next entry. Assumes nothing.
 use mathlib.Core.Path.{_≡_, refl, sym, ap, _∙_}
-use mathlib.Core.List.{List, [], _∷_, _++_, append-assoc, map}
-use Prim.Native.Nat.{ℕ, zero, suc, _+_, _-_, _≤_, _<_}
+use mathlib.Core.List.{List, _∷_, _++_, append-assoc, map}
+use Prim.Native.Nat.{ℕ, zero, suc, _-_, _≤_, _<_}
 use native.Mathlib.Omega.{arith}
 use lib.ListN.{length, getD, drop, drop-of-length-le}
 use lib.Seq.{drop-cons}
-use Rattle.leaf_list.specs.Entries.{Entry, entry}
 use Rattle.leaf_list.proofs.Lists.{all-at}
 use Rattle.page_tree.specs.Rows.{All, flats}
 use Rattle.page_tree.specs.Row.{rowOf}
 use Rattle.page_tree.specs.declared.Row.{Row}
 use Rattle.page_tree.specs.Tree.{leaves}
 use Rattle.page_tree.specs.OffPages.{nextDepth}
-use Rattle.index_table.specs.Layout.{layoutOf, Ref, Within, pageBytes, refAt, refsOf}
+use Rattle.index_table.specs.Layout.{layoutOf, Ref, Within, pageBytes, refAt}
 use Rattle.index_table.specs.Pages.{Pages, pagesAt, nodeAt}
 use Rattle.index_table.proofs.PageBytes.{within-table}
 use Rattle.index_table.proofs.PageRows.{length-refs, drop-refs}

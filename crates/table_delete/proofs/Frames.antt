@@ -1,17 +1,16 @@
 -- Entries below which no byte changes, and one change after another. Assumes nothing.
 use mathlib.Core.Path.{_≡_, refl, ap, _∙_}
 use mathlib.Core.List.{List, [], _∷_, _++_}
-use Prim.Native.Nat.{ℕ, zero, suc, _+_, _≤_}
+use Prim.Native.Nat.{ℕ, zero, suc, _+_}
 use native.Mathlib.Omega.{arith}
-use lib.ListN.{length}
 use Rattle.leaf_list.proofs.Lists.{all-append}
-use Rattle.page_tree.specs.Rows.{All, sum}
+use Rattle.page_tree.specs.Rows.{All}
 use Rattle.page_tree.proofs.ListLaws.{sum-append, all-left, all-right}
 use Rattle.index_table.specs.Layout.{Layout, Ref, pageBytes, refsOf}
 use Rattle.index_table.specs.Pages.{pagesAt, met, metAll, inUse}
 use Rattle.index_table.specs.Standing.{Owned}
 use Rattle.index_table.proofs.Frames.{Keeps, met-self, UnchangedRow, unchanged-row}
-use Rattle.table_delete.specs.Keeping.{numbersAt, Linked, Kept}
+use Rattle.table_delete.specs.Keeping.{Linked, Kept}
 
 -- ---- links
 

@@ -2,14 +2,14 @@
 use mathlib.Core.Path.{_≡_, refl, sym, ap, _∙_, subst}
 use mathlib.Core.Logic.{_⊎_, inl, inr}
 use mathlib.Core.List.{List, [], _∷_}
-use Prim.Native.Nat.{ℕ, zero, suc, _+_, _-_, _≤_, _<_}
+use Prim.Native.Nat.{ℕ, zero, suc, _+_, _-_, _≤_}
 use native.Mathlib.Omega.{arith}
-use lib.ListN.{length, take, drop, replicate, length-map}
+use lib.ListN.{length, drop, replicate, length-map}
 use lib.Seq.{drop-length}
 use Rattle.page_tree.specs.Rows.{All, sum}
-use Rattle.page_tree.specs.Numbered.{Numbered, NumberedTree, lowerNumbered}
+use Rattle.page_tree.specs.Numbered.{Numbered, lowerNumbered}
 use Rattle.index_table.specs.Layout.{Layout, layoutOf, Ref, Within, pageSize, pageBytes, countOf, refAt, refsOf, store}
-use Rattle.index_table.specs.Pages.{pagesAt, numberedAt, same, met, metAll, inUse, rootRef, numberedTreeAt}
+use Rattle.index_table.specs.Pages.{pagesAt, numberedAt, same, met, inUse, rootRef}
 use Rattle.index_table.specs.Standing.{Owned}
 use Rattle.index_table.specs.declared.layout.PageNo.{PageNo}
 use Rattle.index_table.specs.declared.layout.Root.{Root}
@@ -17,7 +17,7 @@ use Rattle.index_table.proofs.PageBytes.{within-table}
 use Rattle.index_table.proofs.PageRows.{length-refs, drop-refs}
 use Rattle.index_table.proofs.PageCounts.{same-self, same-cases}
 use Rattle.index_table.proofs.Frames.{Keeps, Unchanged, unchanged}
-use Rattle.table_delete.specs.Keeping.{numbersAt, Linked, Paged}
+use Rattle.table_delete.specs.Keeping.{numbersAt, Linked}
 use Rattle.table_delete.specs.Rows.{settled}
 use Rattle.table_delete.specs.Taking.{LowerPre, LowerPost}
 use Rattle.table_delete.proofs.Frames.{linked-stays}

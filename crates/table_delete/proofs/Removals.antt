@@ -1,9 +1,9 @@
 -- Removal below an entry, rank by rank. Assumes nothing.
-use mathlib.Core.Path.{_≡_, refl, sym, ap, ap₂, subst, _∙_}
+use mathlib.Core.Path.{_≡_, refl, sym, ap, ap₂, _∙_}
 use mathlib.Core.Logic.{_⊎_, inl, inr}
 use mathlib.Core.Option.{none}
 use mathlib.Core.List.{List, [], _∷_, _++_, append-assoc, map, map-append}
-use Prim.Native.Nat.{ℕ, zero, suc, _+_, _-_, _≤_, _<_}
+use Prim.Native.Nat.{ℕ, zero, suc, _+_, _≤_, _<_}
 use native.Mathlib.Omega.{arith}
 use native.Mathlib.Numerals.{add-one}
 use lib.ListN.{length, getD, take, drop}
@@ -13,12 +13,12 @@ use Rattle.leaf_list.proofs.Lists.{all-at}
 use Rattle.page_tree.specs.Rows.{All, Closed, flats, lastDepth}
 use Rattle.page_tree.specs.Row.{rowOf, Holds}
 use Rattle.page_tree.specs.declared.Unwind.{Unwind}
-use Rattle.page_tree.specs.Tree.{Node, depth, leaves}
+use Rattle.page_tree.specs.Tree.{depth, leaves}
 use Rattle.page_tree.specs.OffPages.{Left, sweep, nextDepth, strike, strikeIn}
-use Rattle.page_tree.specs.Numbered.{Numbered, aside, numberedDepth, numberedLeaves, stepNumbered, deleteNumbered, keptUnder}
+use Rattle.page_tree.specs.Numbered.{Numbered, numberedDepth, numberedLeaves, stepNumbered, deleteNumbered}
 use Rattle.page_tree.proofs.ListLaws.{all-left}
 use Rattle.page_tree.proofs.RowMaps.{lastDepth-map, positionsAfter-map, passes-map}
-use Rattle.page_tree.proofs.WalkPlaces.{positionsAfter, Passes, Stops, strikeIn-at}
+use Rattle.page_tree.proofs.WalkPlaces.{positionsAfter, Stops, strikeIn-at}
 use Rattle.index_table.specs.Layout.{Layout, layoutOf, Ref, Within}
 use Rattle.index_table.specs.Pages.{Pages, pagesAt, nodeAt, numberedAt, metAll}
 use Rattle.index_table.specs.Soundness.{SoundBelow}
@@ -32,10 +32,10 @@ use Rattle.table_delete.specs.declared.entries.Remnant.{Remnant}
 use Rattle.table_delete.specs.declared.rows.Slot.{Slot}
 use Rattle.table_delete.specs.declared.rows.Swept.{Swept}
 use Rattle.table_delete.specs.declared.removal.Place.{Place}
-use Rattle.table_delete.specs.Keeping.{depthOf, numbersAt, Linked, Paged, Kept}
+use Rattle.table_delete.specs.Keeping.{depthOf, numbersAt, Linked, Kept}
 use Rattle.table_delete.specs.Entries.{parts, Turned}
 use Rattle.table_delete.specs.Rows.{around, PutPost, SettlePost}
-use Rattle.table_delete.specs.Unwinding.{BackPre, SweepPre, sweepAt, SweepPost}
+use Rattle.table_delete.specs.Unwinding.{SweepPre, sweepAt, SweepPost}
 use Rattle.table_delete.specs.Removing.{followingAt, AfterPre, RemovePre, LocatePost, RemovePost}
 use Rattle.table_delete.proofs.Frames.{kept-owned, kept-then, kept-at, before-stays, after-stays}
 use Rattle.table_delete.proofs.Sweeps.{leaf-done, row-owned, up-done}

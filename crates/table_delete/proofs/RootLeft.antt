@@ -3,7 +3,6 @@ use mathlib.Core.Path.{_≡_, refl, _∙_}
 use mathlib.Core.List.{List, [], _∷_}
 use Prim.Native.Nat.{ℕ, zero, suc}
 use native.Mathlib.Omega.{arith}
-use lib.ListN.{length}
 use Rattle.leaf_list.proofs.Positions.{Beyond, Rising}
 use Rattle.leaf_list.proofs.Depths.{Neighbours}
 use Rattle.page_tree.specs.declared.Unwind.{Unwind}

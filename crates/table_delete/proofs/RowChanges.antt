@@ -1,23 +1,21 @@
 -- What the functions on rows leave. Assumes nothing.
 use mathlib.Core.Path.{_≡_, refl, sym, ap, ap₂, _∙_}
-use mathlib.Core.Bool.{Bool, true, false, cond}
+use mathlib.Core.Bool.{true, false}
 use mathlib.Core.List.{List, [], _∷_, _++_}
 use Prim.Native.Nat.{ℕ, zero, suc, _+_, _-_, _≤_, _<_}
 use native.Mathlib.Omega.{arith}
 use lib.ListN.{length, getD, set, take, drop, length-set, replicate}
-use lib.Seq.{slice, take-take, take-set-le, drop-set-lt, drop-cons, getD-set-same}
-use Rattle.page_tree.specs.Rows.{All, lastDepth}
+use lib.Seq.{take-set-le, drop-set-lt, drop-cons, getD-set-same}
+use Rattle.page_tree.specs.Rows.{lastDepth}
 use Rattle.page_tree.specs.Row.{rowOf, partOf, Holds}
 use Rattle.page_tree.specs.declared.Row.{Row}
 use Rattle.page_tree.proofs.RowLaws.{part-of-row}
-use Rattle.index_table.specs.Layout.{layoutOf, pageSize, Ref, Fitting, rowPage, store}
+use Rattle.index_table.specs.Layout.{layoutOf, pageSize, Ref, rowPage, store}
 use Rattle.index_table.specs.Storing.{Storable}
 use Rattle.table_delete.specs.declared.entries.Remnant.{Remnant}
-use Rattle.table_delete.specs.declared.rows.Slot.{Slot}
 use Rattle.table_delete.specs.declared.rows.Swept.{Swept}
 use Rattle.table_delete.specs.Keeping.{depthOf}
-use Rattle.table_delete.specs.Entries.{parts}
-use Rattle.table_delete.specs.Rows.{around, PutPost, settledPage, settled, entryFor, SettlePre, SettlePost}
+use Rattle.table_delete.specs.Rows.{around, PutPost, settledPage, entryFor, SettlePre, SettlePost}
 
 -- ---- put
 

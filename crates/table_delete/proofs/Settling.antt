@@ -1,20 +1,20 @@
 -- A page after the change of its row: stored, or freed where nothing is left. Assumes nothing.
 use mathlib.Core.Path.{_≡_, refl, sym, ap, _∙_, subst}
 use mathlib.Core.Logic.{_⊎_, inl, inr}
-use mathlib.Core.List.{List, [], _∷_, _++_}
-use Prim.Native.Nat.{ℕ, zero, suc, _+_, _≤_, _<_}
+use mathlib.Core.List.{List, [], _∷_}
+use Prim.Native.Nat.{ℕ, suc, _+_, _≤_, _<_}
 use native.Mathlib.Omega.{arith}
-use lib.ListN.{length, take, replicate, length-replicate}
-use Rattle.page_tree.specs.Rows.{All, sum}
+use lib.ListN.{length, take, length-replicate}
+use Rattle.page_tree.specs.Rows.{All}
 use Rattle.page_tree.specs.Numbered.{Numbered, keptUnder}
-use Rattle.index_table.specs.Layout.{Layout, layoutOf, Ref, Within, Fitting, pageSize, pageBytes, levelOf, refsOf, store}
+use Rattle.index_table.specs.Layout.{Layout, layoutOf, Ref, Within, Fitting, pageSize, pageBytes, levelOf, refsOf}
 use Rattle.index_table.specs.Pages.{pagesAt, numberedAt, same, met, metAll, inUse}
 use Rattle.index_table.specs.Soundness.{Cleared}
 use Rattle.index_table.specs.Standing.{Owned}
 use Rattle.index_table.proofs.PageBytes.{page-stored, other-page, length-store, front-store}
 use Rattle.index_table.proofs.PageRows.{length-page-of, refs-page-of}
 use Rattle.index_table.proofs.PageCounts.{same-self, same-cases}
-use Rattle.index_table.proofs.StoredRows.{zeros-refs, zeros-cleared, HeadOf, row-page-head, page-of-level, page-of-cleared}
+use Rattle.index_table.proofs.StoredRows.{zeros-refs, zeros-cleared, row-page-head, page-of-level, page-of-cleared}
 use Rattle.index_table.proofs.Frames.{UnchangedRow, unchanged-row, Keeps}
 use Rattle.table_delete.specs.Keeping.{numbersAt, Linked, Kept}
 use Rattle.table_delete.specs.Rows.{settledPage, settled, entryFor}

@@ -1,8 +1,8 @@
 -- Sound pages are linked, and linked pages that read as a sound tree are sound. Assumes nothing.
-use mathlib.Core.Path.{_≡_, refl, sym, ap, _∙_, subst}
+use mathlib.Core.Path.{_≡_, refl, sym, _∙_, subst}
 use mathlib.Core.List.{List, [], _∷_, map}
 use Prim.Native.Nat.{ℕ, zero, suc}
-use Rattle.page_tree.specs.Rows.{All, Closed, lastDepth}
+use Rattle.page_tree.specs.Rows.{All, Closed}
 use Rattle.page_tree.specs.Tree.{Node, depth, Sound}
 use Rattle.page_tree.proofs.ClosedRows.{closed-last}
 use Rattle.page_tree.proofs.RowMaps.{lastDepth-map, closed-unmap}

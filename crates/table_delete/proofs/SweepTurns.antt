@@ -1,6 +1,6 @@
 -- The loop over the row of a page from the right: what is left to do equals the whole. Assumes nothing.
 use mathlib.Core.Path.{_≡_, refl, sym, ap, ap₂, _∙_}
-use mathlib.Core.List.{List, [], _∷_, _++_, append-assoc, append-nil, map, map-append}
+use mathlib.Core.List.{List, [], _∷_, _++_, append-assoc, append-nil, map-append}
 use Prim.Native.Nat.{ℕ, zero, suc, _+_, _-_, _≤_, _<_}
 use native.Mathlib.Omega.{arith}
 use lib.ListN.{length, getD, take, drop, length-map}
@@ -9,8 +9,8 @@ use Rattle.page_tree.specs.Rows.{All, sum}
 use Rattle.page_tree.specs.Row.{rowOf, Holds}
 use Rattle.page_tree.specs.declared.Row.{Row}
 use Rattle.page_tree.specs.declared.Unwind.{Unwind}
-use Rattle.page_tree.specs.declared.Unwind.the-variants.{Idle, Give, Clear}
-use Rattle.page_tree.specs.OffPages.{Left, over, sweep}
+use Rattle.page_tree.specs.declared.Unwind.the-variants.{Idle}
+use Rattle.page_tree.specs.OffPages.{Left, sweep}
 use Rattle.page_tree.specs.Numbered.{Numbered, keptUnder, stepNumbered}
 use Rattle.page_tree.proofs.ListLaws.{all-left, all-right}
 use Rattle.page_tree.proofs.WalkPlaces.{sweep-append}
@@ -20,7 +20,6 @@ use Rattle.index_table.specs.Standing.{Owned}
 use Rattle.index_table.proofs.Frames.{UnchangedRow}
 use Rattle.table_delete.specs.declared.entries.Remnant.{Remnant}
 use Rattle.table_delete.specs.declared.rows.Slot.{Slot}
-use Rattle.table_delete.specs.declared.rows.Swept.{Swept}
 use Rattle.table_delete.specs.Keeping.{numbersAt, Linked, Paged, Kept}
 use Rattle.table_delete.specs.Entries.{parts}
 use Rattle.table_delete.specs.Rows.{around, PutPost}

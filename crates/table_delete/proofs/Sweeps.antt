@@ -1,34 +1,27 @@
 -- The way back over the row of a page, and into the page below an entry. Assumes nothing.
 use mathlib.Core.Path.{_≡_, refl, sym, ap, ap₂, _∙_}
-use mathlib.Core.List.{List, [], _∷_, _++_, append-assoc, append-nil, map, map-append}
-use Prim.Native.Nat.{ℕ, zero, suc, _+_, _-_, _≤_, _<_}
+use mathlib.Core.List.{List, [], _∷_, _++_, append-nil, map}
+use Prim.Native.Nat.{ℕ, zero, suc, _-_, _≤_, _<_}
 use native.Mathlib.Omega.{arith}
-use lib.ListN.{length, getD, take, drop, length-map, length-append, length-take, length-drop}
-use lib.Seq.{take-suc, take-length, drop-length, take-all}
+use lib.ListN.{length, take, drop, length-take}
+use lib.Seq.{drop-length, take-all}
 use Rattle.leaf_list.specs.Entries.{Entry}
-use Rattle.leaf_list.proofs.Lists.{all-at}
-use Rattle.page_tree.specs.Rows.{All, sum}
+use Rattle.page_tree.specs.Rows.{All}
 use Rattle.page_tree.specs.Row.{rowOf, Holds}
 use Rattle.page_tree.specs.declared.Row.{Row}
 use Rattle.page_tree.specs.declared.Unwind.{Unwind}
-use Rattle.page_tree.specs.declared.Unwind.the-variants.{Idle, Give, Clear}
-use Rattle.page_tree.specs.OffPages.{Left, stepEntry, over, sweep}
+use Rattle.page_tree.specs.OffPages.{Left, stepEntry, sweep}
 use Rattle.page_tree.specs.Numbered.{Numbered, keptUnder, stepNumbered}
-use Rattle.page_tree.proofs.ListLaws.{all-left, all-right}
-use Rattle.page_tree.proofs.WalkPlaces.{sweep-append}
-use Rattle.index_table.specs.Layout.{layoutOf, Ref, Within, Fitting, pageBytes}
+use Rattle.index_table.specs.Layout.{layoutOf, Ref, Within, Fitting}
 use Rattle.index_table.specs.Pages.{Pages, pagesAt, leafOf, numberedAt, met, metAll}
 use Rattle.index_table.specs.Standing.{Owned}
 use Rattle.index_table.proofs.PageBytes.{within-table}
-use Rattle.index_table.proofs.Frames.{UnchangedRow}
 use Rattle.table_delete.specs.declared.entries.Remnant.{Remnant}
-use Rattle.table_delete.specs.declared.rows.Slot.{Slot}
 use Rattle.table_delete.specs.declared.rows.Swept.{Swept}
 use Rattle.table_delete.specs.Keeping.{numbersAt, Linked, Paged, Kept}
 use Rattle.table_delete.specs.Entries.{parts, Turned}
-use Rattle.table_delete.specs.Rows.{around, PutPost, settled, entryFor, SettlePre, SettlePost}
+use Rattle.table_delete.specs.Rows.{around, SettlePre, SettlePost}
 use Rattle.table_delete.specs.Unwinding.{BackPre, Done, BackPost, SweepPre, sweepAt, SweepPost}
-use Rattle.table_delete.proofs.Frames.{kept-none, kept-owned, kept-then, kept-at, before-stays, after-stays}
 use Rattle.table_delete.proofs.Settling.{settled-kept, settled-numbers}
 
 -- ---- level 0

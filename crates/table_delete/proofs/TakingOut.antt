@@ -2,33 +2,32 @@
 use mathlib.Core.Path.{_≡_, refl, sym, ap, _∙_, subst}
 use mathlib.Core.Bool.{Bool, true, false}
 use mathlib.Core.List.{List, [], _∷_, map}
-use Prim.Native.Nat.{ℕ, zero, suc, _+_, _≤_, _<_}
+use Prim.Native.Nat.{ℕ, suc, _+_, _≤_, _<_}
 use native.Mathlib.Omega.{arith}
 use native.Mathlib.Numerals.{add-one}
 use lib.ListN.{length, length-map}
 use Rattle.leaf_list.specs.Keys.{bits}
 use Rattle.leaf_list.specs.Search.{positions}
 use Rattle.leaf_list.proofs.Positions.{positions-beyond, positions-rise}
-use Rattle.page_tree.specs.Rows.{All, sum, Closed, lastDepth}
-use Rattle.page_tree.specs.Tree.{Node, depth, Sound, Tree, RootRule}
+use Rattle.page_tree.specs.Rows.{lastDepth}
+use Rattle.page_tree.specs.Tree.{Node, depth}
 use Rattle.page_tree.specs.OffPages.{Left, deleteBelow, lower}
-use Rattle.page_tree.specs.Numbered.{Numbered, NumberedTree, aside, treeAside, deleteNumbered, lowerNumbered, rootedNumbered}
+use Rattle.page_tree.specs.Numbered.{Numbered, aside, treeAside, deleteNumbered, lowerNumbered, rootedNumbered}
 use Rattle.page_tree.proofs.NumberedLaws.{delete-aside, lower-aside}
-use Rattle.index_table.specs.Layout.{Layout, layoutOf, Ref}
-use Rattle.index_table.specs.Pages.{pagesAt, nodeAt, numberedAt, met, metAll, inUse, rootRef, treeAt, numberedTreeAt}
-use Rattle.index_table.specs.Soundness.{SoundBelow, SoundPages}
+use Rattle.index_table.specs.Layout.{Layout, layoutOf}
+use Rattle.index_table.specs.Pages.{pagesAt, nodeAt, numberedAt, met, metAll, rootRef, treeAt}
+use Rattle.index_table.specs.Soundness.{SoundBelow}
 use Rattle.index_table.specs.declared.layout.Root.{Root}
 use Rattle.index_table.proofs.NumberLaws.{Bytes}
 use Rattle.index_table.proofs.NumberedPages.{numbered-aside, numbereds-aside, tree-aside}
 use Rattle.index_table.proofs.SoundNodes.{sound-tree, tree-depth}
-use Rattle.table_search.specs.Places.{leftFrom, NextPosition}
+use Rattle.table_search.specs.Places.{NextPosition}
 use Rattle.table_delete.specs.declared.entries.Remnant.{Remnant}
-use Rattle.table_delete.specs.Keeping.{depthOf, numbersAt, Linked, Paged, Kept}
+use Rattle.table_delete.specs.Keeping.{depthOf, numbersAt, Linked, Kept}
 use Rattle.table_delete.specs.Entries.{parts}
 use Rattle.table_delete.specs.Unwinding.{Done}
 use Rattle.table_delete.specs.Removing.{RemovePre, RemovePost}
 use Rattle.table_delete.specs.Taking.{LowerPre, LowerPost, TakePre, TakePost}
-use Rattle.table_delete.proofs.Frames.{kept-owned}
 use Rattle.table_delete.proofs.SweepTurns.{paged-then}
 use Rattle.table_delete.proofs.SoundLinks.{sound-linked, linked-depth, linked-sound}
 use Rattle.table_delete.proofs.RootLeft.{LeftAtRoot, root-left, SoundRoot, lowered-root}

@@ -2,7 +2,7 @@
 use mathlib.Core.Path.{_≡_}
 use mathlib.Core.Bool.{Bool, true, false, cond}
 use mathlib.Core.List.{List, [], _∷_, map}
-use Prim.Native.Nat.{ℕ, _<_}
+use Prim.Native.Nat.{_<_}
 use Rattle.leaf_list.specs.Entries.{Entry}
 use Rattle.page_tree.specs.Rows.{All}
 use Rattle.page_tree.specs.OffPages.{Left}

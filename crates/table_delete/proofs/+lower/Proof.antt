@@ -1,3 +1,4 @@
+-- Level by level: a root with one entry is freed. Assumes nothing.
 use Rattle.table_delete.proofs.Lowering.{lower-within, lower-leaf, lower-stop, lower-next, lower-post}
 use native.Mathlib.Omega.{arith}
 use borrow.Author.Needs.{needs}
@@ -22,7 +23,6 @@ lower-at t = and 1 lower-kinds.ps (is 1 lower-kinds.ps μ-lower t) lower.Pre
 abbrev lower-below : ℕ → In 1 lower-kinds.ps
 lower-below t = and 1 lower-kinds.ps (falls 1 lower-kinds.ps _<_ μ-lower t) lower.Pre
 
--- src/lib.rt:24:9
 lower-returns : (t : ℕ) → lower-lts.Need-returns (
   count-reads.Asked,
   count-reads.Learnt,
@@ -35,7 +35,6 @@ lower-returns : (t : ℕ) → lower-lts.Need-returns (
 ) (lower-at t) lower.Post
 lower-returns t c = lower-leaf _ _ (c .if1 .taken) (c .before .before .pre .1)
 
--- src/lib.rt:29:8
 lower-count-requires : (t : ℕ) → lower-lts.Need-count-requires (
   count-reads.Asked,
   count-reads.Learnt,
@@ -48,7 +47,6 @@ lower-count-requires : (t : ℕ) → lower-lts.Need-count-requires (
 ) (lower-at t) lower.Post
 lower-count-requires t c κs = lower-within (c .before .before .before .pre .1)
 
--- src/lib.rt:30:9
 lower-same-length : (t : ℕ) → lower-lts.Need-same-length (
   count-reads.Asked,
   count-reads.Learnt,
@@ -61,7 +59,6 @@ lower-same-length : (t : ℕ) → lower-lts.Need-same-length (
 ) (lower-at t) lower.Post
 lower-same-length t c = search needs
 
--- src/lib.rt:30:9
 lower-returns-2 : (t : ℕ) → lower-lts.Need-returns-2 (
   count-reads.Asked,
   count-reads.Learnt,
@@ -74,7 +71,6 @@ lower-returns-2 : (t : ℕ) → lower-lts.Need-returns-2 (
 ) (lower-at t) lower.Post
 lower-returns-2 t c = lower-stop _ _ (c .before .before .before .if1 .left) (c .before .before .before .before .before .pre .1) (c .before .count .ensures) (c .if2 .taken)
 
--- src/lib.rt:35:9
 lower-child-requires : (t : ℕ) → lower-lts.Need-child-requires (
   count-reads.Asked,
   count-reads.Learnt,
@@ -87,7 +83,6 @@ lower-child-requires : (t : ℕ) → lower-lts.Need-child-requires (
 ) (lower-at t) lower.Post
 lower-child-requires t c κs = (lower-within (c .before .before .before .before .before .before .pre .1), omega (arith, c .before .before .before .before .before .before .pre .1 .sized .some, c .before .before .before .before .before .before .pre .1 .sized .few))
 
--- src/lib.rt:36:5
 lower-free-page-requires : (t : ℕ) → lower-lts.Need-free-page-requires (
   count-reads.Asked,
   count-reads.Learnt,
@@ -100,7 +95,6 @@ lower-free-page-requires : (t : ℕ) → lower-lts.Need-free-page-requires (
 ) (lower-at t) lower.Post
 lower-free-page-requires t c κs = lower-within (c .before .before .before .before .before .before .before .before .pre .1)
 
--- src/lib.rt:37:28
 lower-sub-lower : (t : ℕ) → lower-lts.Need-sub-lower (
   count-reads.Asked,
   count-reads.Learnt,
@@ -113,7 +107,6 @@ lower-sub-lower : (t : ℕ) → lower-lts.Need-sub-lower (
 ) (lower-at t) lower.Post
 lower-sub-lower t c = search needs
 
--- src/lib.rt:37:5
 lower-lower-requires : (t : ℕ) → lower-lts.Need-lower-requires (
   count-reads.Asked,
   count-reads.Learnt,
@@ -126,7 +119,6 @@ lower-lower-requires : (t : ℕ) → lower-lts.Need-lower-requires (
 ) (lower-at t) lower.Post
 lower-lower-requires t c κs = (omega (arith, c .before .before .before .before .before .before .before .before .before .before .before .before .pre .0, c .before .before .before .before .before .before .before .before .before .before .if1 .left), lower-next _ _ _ (c .before .before .before .before .before .before .before .before .before .before .if1 .left) (c .before .before .before .before .before .before .before .before .before .before .before .before .pre .1) (c .before .before .before .before .before .before .before .before .count .ensures) (omega (arith, c .before .before .before .before .before .before .before .if2 .left)) (c .before .before .before .before .before .child .ensures) (c .before .before .before .free-page .ensures))
 
--- src/lib.rt:19:1
 lower-same-length-2 : (t : ℕ) → lower-lts.Need-same-length-2 (
   count-reads.Asked,
   count-reads.Learnt,
@@ -139,7 +131,6 @@ lower-same-length-2 : (t : ℕ) → lower-lts.Need-same-length-2 (
 ) (lower-at t) lower.Post
 lower-same-length-2 t c = search needs
 
--- src/lib.rt:19:1
 lower-returns-3 : (t : ℕ) → lower-lts.Need-returns-3 (
   count-reads.Asked,
   count-reads.Learnt,

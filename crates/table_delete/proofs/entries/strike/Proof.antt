@@ -1,25 +1,19 @@
+-- Case by case. Assumes nothing.
 use Rattle.table_delete.proofs.EntryTurns.{strike-one, strike-zero, strike-dummy}
 use native.Mathlib.Omega.{arith}
 use borrow.Author.Needs.{needs}
 use Rattle.table_delete.proofs.entries.strike.Statement.{statement}
 use Rattle.table_delete.proofs.entries.strike.Tie as tie
-use Rattle.table_delete.proofs.entries.strike.Reads as reads
-use Rattle.table_delete.proofs.entries.strike.Lts as lts
-use Rattle.table_delete.proofs.entries.deep.Reads as deep-reads
 
--- src/entries.rt:84:8
 deep-requires : tie.Need-deep-requires
 deep-requires c κs = search needs
 
--- src/entries.rt:85:9
 returns : tie.Need-returns
 returns c = strike-one _ _ _ (omega (arith, c .if1 .taken, c .before .deep .ensures))
 
--- src/entries.rt:93:9
 returns-2 : tie.Need-returns-2
 returns-2 c = strike-zero _ _ _ (omega (arith, c .before .if1 .left, c .before .before .deep .ensures)) (c .if2 .taken)
 
--- src/entries.rt:81:1
 returns-3 : tie.Need-returns-3
 returns-3 c = strike-dummy _ _ _ (omega (arith, c .before .if1 .left, c .before .before .deep .ensures)) (c .if2 .left)
 

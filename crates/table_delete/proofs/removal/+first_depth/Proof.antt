@@ -1,3 +1,4 @@
+-- Rank by rank, to the first entry of each page. Assumes nothing.
 use Rattle.table_delete.proofs.Following.{first-leaf, first-fits, first-read, first-down, first-post}
 use native.Mathlib.Omega.{arith}
 use borrow.Author.Needs.{needs}
@@ -24,7 +25,6 @@ abbrev first-depth-below : ℕ → In 1 first-depth-kinds.ps
 first-depth-below t =
     and 1 first-depth-kinds.ps (falls 1 first-depth-kinds.ps _<_ μ-first-depth t) first-depth.Pre
 
--- src/removal.rt:36:9
 first-depth-returns : (t : ℕ) → first-depth-lts.Need-returns (
   page-of-reads.Asked,
   page-of-reads.Learnt,
@@ -37,7 +37,6 @@ first-depth-returns : (t : ℕ) → first-depth-lts.Need-returns (
 ) (first-depth-at t) first-depth.Post
 first-depth-returns t c = first-leaf _ _ _ (c .if1 .taken)
 
--- src/removal.rt:38:9
 first-depth-page-of-requires : (t : ℕ) → first-depth-lts.Need-page-of-requires (
   page-of-reads.Asked,
   page-of-reads.Learnt,
@@ -50,7 +49,6 @@ first-depth-page-of-requires : (t : ℕ) → first-depth-lts.Need-page-of-requir
 ) (first-depth-at t) first-depth.Post
 first-depth-page-of-requires t c κs = first-fits _ (c .before .before .pre .1)
 
--- src/removal.rt:39:9
 first-depth-depth-requires : (t : ℕ) → first-depth-lts.Need-depth-requires (
   page-of-reads.Asked,
   page-of-reads.Learnt,
@@ -63,7 +61,6 @@ first-depth-depth-requires : (t : ℕ) → first-depth-lts.Need-depth-requires (
 ) (first-depth-at t) first-depth.Post
 first-depth-depth-requires t c κs = first-read _ _ (c .page-of .ensures) (c .before .if1 .left) (c .before .before .before .pre .1)
 
--- src/removal.rt:40:9
 first-depth-pointer-requires : (t : ℕ) → first-depth-lts.Need-pointer-requires (
   page-of-reads.Asked,
   page-of-reads.Learnt,
@@ -76,7 +73,6 @@ first-depth-pointer-requires : (t : ℕ) → first-depth-lts.Need-pointer-requir
 ) (first-depth-at t) first-depth.Post
 first-depth-pointer-requires t c κs = first-read _ _ (c .before .page-of .ensures) (c .before .before .if1 .left) (c .before .before .before .before .pre .1)
 
--- src/removal.rt:41:34
 first-depth-sub-first-depth : (t : ℕ) → first-depth-lts.Need-sub-first-depth (
   page-of-reads.Asked,
   page-of-reads.Learnt,
@@ -89,7 +85,6 @@ first-depth-sub-first-depth : (t : ℕ) → first-depth-lts.Need-sub-first-depth
 ) (first-depth-at t) first-depth.Post
 first-depth-sub-first-depth t c = search needs
 
--- src/removal.rt:41:5
 first-depth-first-depth-requires : (t : ℕ) → first-depth-lts.Need-first-depth-requires (
   page-of-reads.Asked,
   page-of-reads.Learnt,
@@ -102,7 +97,6 @@ first-depth-first-depth-requires : (t : ℕ) → first-depth-lts.Need-first-dept
 ) (first-depth-at t) first-depth.Post
 first-depth-first-depth-requires t c κs = (omega (arith, c .before .before .before .before .before .pre .0, c .before .before .before .if1 .left), first-down _ _ _ _ (c .before .before .page-of .ensures) (c .before .before .before .if1 .left) (c .before .before .before .before .before .pre .1) (c .before .depth .ensures) (c .pointer .ensures .0))
 
--- src/removal.rt:31:1
 first-depth-returns-2 : (t : ℕ) → first-depth-lts.Need-returns-2 (
   page-of-reads.Asked,
   page-of-reads.Learnt,

@@ -1,3 +1,4 @@
+-- Rank by rank: down to the place found in the page, back over its row, and the page is settled. Assumes nothing.
 use Rattle.table_delete.proofs.RemovalSteps.{remove-locate, found-read, remove-few, remove-down, remove-sweep, remove-settle, remove-post}
 use Rattle.table_delete.proofs.Removals.{remove-leaf}
 use Rattle.table_delete.proofs.Sweeps.{back-fits}
@@ -29,7 +30,6 @@ remove-at t = and 1 remove-kinds.ps (is 1 remove-kinds.ps μ-remove t) remove.Pr
 abbrev remove-below : ℕ → In 1 remove-kinds.ps
 remove-below t = and 1 remove-kinds.ps (falls 1 remove-kinds.ps _<_ μ-remove t) remove.Pre
 
--- src/removal.rt:100:9
 remove-strike-requires : (t : ℕ) → remove-lts.Need-strike-requires (
   strike-reads.Asked,
   strike-reads.Learnt,
@@ -52,7 +52,6 @@ remove-strike-requires : (t : ℕ) → remove-lts.Need-strike-requires (
 ) (remove-at t) remove.Post
 remove-strike-requires t c κs = search needs
 
--- src/removal.rt:100:9
 remove-returns : (t : ℕ) → remove-lts.Need-returns (
   strike-reads.Asked,
   strike-reads.Learnt,
@@ -75,7 +74,6 @@ remove-returns : (t : ℕ) → remove-lts.Need-returns (
 ) (remove-at t) remove.Post
 remove-returns t c = remove-leaf _ _ _ _ _ _ _ (c .before .if1 .taken) (c .strike .ensures)
 
--- src/removal.rt:102:9
 remove-page-of-requires : (t : ℕ) → remove-lts.Need-page-of-requires (
   strike-reads.Asked,
   strike-reads.Learnt,
@@ -98,7 +96,6 @@ remove-page-of-requires : (t : ℕ) → remove-lts.Need-page-of-requires (
 ) (remove-at t) remove.Post
 remove-page-of-requires t c κs = back-fits _ (c .before .before .pre .1 .back)
 
--- src/removal.rt:103:41
 remove-sub-locate : (t : ℕ) → remove-lts.Need-sub-locate (
   strike-reads.Asked,
   strike-reads.Learnt,
@@ -121,7 +118,6 @@ remove-sub-locate : (t : ℕ) → remove-lts.Need-sub-locate (
 ) (remove-at t) remove.Post
 remove-sub-locate t c = search needs
 
--- src/removal.rt:103:9
 remove-locate-requires : (t : ℕ) → remove-lts.Need-locate-requires (
   strike-reads.Asked,
   strike-reads.Learnt,
@@ -144,7 +140,6 @@ remove-locate-requires : (t : ℕ) → remove-lts.Need-locate-requires (
 ) (remove-at t) remove.Post
 remove-locate-requires t c κs = remove-locate _ _ (c .before .page-of .ensures) (c .before .before .if1 .left) (c .before .before .before .before .pre .1)
 
--- src/removal.rt:111:9
 remove-sub-remove : (t : ℕ) → remove-lts.Need-sub-remove (
   strike-reads.Asked,
   strike-reads.Learnt,
@@ -167,7 +162,6 @@ remove-sub-remove : (t : ℕ) → remove-lts.Need-sub-remove (
 ) (remove-at t) remove.Post
 remove-sub-remove t c = search needs
 
--- src/removal.rt:112:9
 remove-depth-requires : (t : ℕ) → remove-lts.Need-depth-requires (
   strike-reads.Asked,
   strike-reads.Learnt,
@@ -190,7 +184,6 @@ remove-depth-requires : (t : ℕ) → remove-lts.Need-depth-requires (
 ) (remove-at t) remove.Post
 remove-depth-requires t c κs = found-read (c .before .before .before .locate .ensures) (remove-few _ _ (c .before .before .before .before .before .page-of .ensures) (c .before .before .before .before .before .before .if1 .left) (c .before .before .before .before .before .before .before .before .pre .1)) (omega (arith, c .before .before .before .before .before .before .before .before .fits .e))
 
--- src/removal.rt:113:9
 remove-pointer-requires : (t : ℕ) → remove-lts.Need-pointer-requires (
   strike-reads.Asked,
   strike-reads.Learnt,
@@ -213,7 +206,6 @@ remove-pointer-requires : (t : ℕ) → remove-lts.Need-pointer-requires (
 ) (remove-at t) remove.Post
 remove-pointer-requires t c κs = found-read (c .before .before .before .before .locate .ensures) (remove-few _ _ (c .before .before .before .before .before .before .page-of .ensures) (c .before .before .before .before .before .before .before .if1 .left) (c .before .before .before .before .before .before .before .before .before .pre .1)) (omega (arith, c .before .before .before .before .before .before .before .before .before .fits .e))
 
--- src/removal.rt:107:9
 remove-remove-requires : (t : ℕ) → remove-lts.Need-remove-requires (
   strike-reads.Asked,
   strike-reads.Learnt,
@@ -236,7 +228,6 @@ remove-remove-requires : (t : ℕ) → remove-lts.Need-remove-requires (
 ) (remove-at t) remove.Post
 remove-remove-requires t c κs = (omega (arith, c .before .before .before .before .before .before .before .before .before .before .pre .0, c .before .before .before .before .before .before .before .before .if1 .left), remove-down _ _ (c .before .before .before .before .before .before .before .page-of .ensures) (c .before .before .before .before .before .before .before .before .if1 .left) (c .before .before .before .before .before .before .before .before .before .before .pre .1) (c .before .before .before .before .before .locate .ensures) _ _ (c .before .depth .ensures) (c .pointer .ensures))
 
--- src/removal.rt:121:25
 remove-add-put : (t : ℕ) → remove-lts.Need-add-put (
   strike-reads.Asked,
   strike-reads.Learnt,
@@ -259,7 +250,6 @@ remove-add-put : (t : ℕ) → remove-lts.Need-add-put (
 ) (remove-at t) remove.Post
 remove-add-put t c = let k = found-read (c .before .before .before .before .before .before .before .before .locate .ensures) (remove-few _ _ (c .before .before .before .before .before .before .before .before .before .before .page-of .ensures) (c .before .before .before .before .before .before .before .before .before .before .before .if1 .left) (c .before .before .before .before .before .before .before .before .before .before .before .before .before .pre .1)) (omega (arith, c .before .before .before .before .before .before .before .before .before .before .before .before .before .fits .e)) in omega (arith, k .0, k .1)
 
--- src/removal.rt:121:9
 remove-put-requires : (t : ℕ) → remove-lts.Need-put-requires (
   strike-reads.Asked,
   strike-reads.Learnt,
@@ -282,7 +272,6 @@ remove-put-requires : (t : ℕ) → remove-lts.Need-put-requires (
 ) (remove-at t) remove.Post
 remove-put-requires t c κs = let k = found-read (c .before .before .before .before .before .before .before .before .locate .ensures) (remove-few _ _ (c .before .before .before .before .before .before .before .before .before .before .page-of .ensures) (c .before .before .before .before .before .before .before .before .before .before .before .if1 .left) (c .before .before .before .before .before .before .before .before .before .before .before .before .before .pre .1)) (omega (arith, c .before .before .before .before .before .before .before .before .before .before .before .before .before .fits .e)) in (omega arith, omega (arith, k .0), k .1)
 
--- src/removal.rt:123:39
 remove-sub-sweep : (t : ℕ) → remove-lts.Need-sub-sweep (
   strike-reads.Asked,
   strike-reads.Learnt,
@@ -305,7 +294,6 @@ remove-sub-sweep : (t : ℕ) → remove-lts.Need-sub-sweep (
 ) (remove-at t) remove.Post
 remove-sub-sweep t c = search needs
 
--- src/removal.rt:123:9
 remove-sweep-requires : (t : ℕ) → remove-lts.Need-sweep-requires (
   strike-reads.Asked,
   strike-reads.Learnt,
@@ -328,7 +316,6 @@ remove-sweep-requires : (t : ℕ) → remove-lts.Need-sweep-requires (
 ) (remove-at t) remove.Post
 remove-sweep-requires t c κs = remove-sweep _ _ (c .before .before .before .before .before .before .before .before .before .before .before .before .page-of .ensures) (c .before .before .before .before .before .before .before .before .before .before .before .before .before .if1 .left) (c .before .before .before .before .before .before .before .before .before .before .before .before .before .before .before .pre .1) (c .before .before .before .before .before .before .before .before .before .before .locate .ensures) _ _ (c .before .before .before .before .before .before .depth .ensures) (c .before .before .before .before .before .pointer .ensures) (omega (arith, c .before .before .before .before .before .before .before .before .before .before .before .before .before .before .before .fits .e)) _ _ (c .before .before .before .before .remove .ensures) _ (c .before .put .ensures)
 
--- src/removal.rt:124:22
 remove-sub-settle : (t : ℕ) → remove-lts.Need-sub-settle (
   strike-reads.Asked,
   strike-reads.Learnt,
@@ -351,7 +338,6 @@ remove-sub-settle : (t : ℕ) → remove-lts.Need-sub-settle (
 ) (remove-at t) remove.Post
 remove-sub-settle t c = omega (arith, c .before .before .before .before .before .before .before .before .before .before .before .before .before .before .before .before .before .if1 .left)
 
--- src/removal.rt:124:5
 remove-settle-requires : (t : ℕ) → remove-lts.Need-settle-requires (
   strike-reads.Asked,
   strike-reads.Learnt,
@@ -374,7 +360,6 @@ remove-settle-requires : (t : ℕ) → remove-lts.Need-settle-requires (
 ) (remove-at t) remove.Post
 remove-settle-requires t c κs = remove-settle _ _ (c .before .before .before .before .before .before .before .before .before .before .before .before .before .before .before .before .page-of .ensures) (c .before .before .before .before .before .before .before .before .before .before .before .before .before .before .before .before .before .if1 .left) (c .before .before .before .before .before .before .before .before .before .before .before .before .before .before .before .before .before .before .before .pre .1) (c .before .before .before .before .before .before .before .before .before .before .before .before .before .before .locate .ensures) _ _ (c .before .before .before .before .before .before .before .before .before .before .depth .ensures) (c .before .before .before .before .before .before .before .before .before .pointer .ensures) (omega (arith, c .before .before .before .before .before .before .before .before .before .before .before .before .before .before .before .before .before .before .before .fits .e)) _ _ (c .before .before .before .before .before .before .before .before .remove .ensures) _ (c .before .before .before .before .before .put .ensures) _ _ (c .before .before .before .sweep .ensures)
 
--- src/removal.rt:83:1
 remove-same-length : (t : ℕ) → remove-lts.Need-same-length (
   strike-reads.Asked,
   strike-reads.Learnt,
@@ -397,7 +382,6 @@ remove-same-length : (t : ℕ) → remove-lts.Need-same-length (
 ) (remove-at t) remove.Post
 remove-same-length t c = search needs
 
--- src/removal.rt:83:1
 remove-returns-2 : (t : ℕ) → remove-lts.Need-returns-2 (
   strike-reads.Asked,
   strike-reads.Learnt,

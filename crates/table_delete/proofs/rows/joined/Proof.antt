@@ -1,28 +1,19 @@
+-- Two parts of a row, one behind the other. Assumes nothing.
 use Rattle.table_delete.proofs.RowChanges.{joined-row}
-use lib.ListN.{length}
-use mathlib.Core.Path.{_≡_, refl, sym, _∙_}
 use native.Mathlib.Omega.{arith}
 use borrow.Author.Needs.{needs}
 use Rattle.table_delete.proofs.rows.joined.Statement.{statement}
 use Rattle.table_delete.proofs.rows.joined.Tie as tie
-use Rattle.table_delete.proofs.rows.joined.Reads as reads
-use Rattle.table_delete.proofs.rows.joined.Lts as lts
-use Rattle.page_tree.proofs.Row.append.Reads as append-reads
-use Rattle.page_tree.proofs.Row.new.Reads as new-reads
 
--- src/rows.rt:59:17
 new-requires : tie.Need-new-requires
 new-requires c κs = search needs
 
--- src/rows.rt:59:9
 append-requires : tie.Need-append-requires
 append-requires c κs = (omega arith, omega (arith, c .before .pre .0, c .before .pre .1, c .before .pre .2), omega (arith, c .new .ensures .count, c .before .pre .0, c .before .pre .1, c .before .pre .2))
 
--- src/rows.rt:60:5
 append-requires-2 : tie.Need-append-requires-2
 append-requires-2 c κs = (c .before .before .pre .1, c .before .before .pre .2, omega (arith, c .append .ensures .count, c .before .new .ensures .count, c .before .before .pre .0, c .before .before .pre .1, c .before .before .pre .2))
 
--- src/rows.rt:54:1
 returns : tie.Need-returns
 returns c = joined-row (c .before .before .before .args .row) _ _ _ (c .before .before .before .args .i) (c .before .before .before .args .w) (c .before .before .before .pre .0) (c .before .before .before .pre .1) (c .before .before .new .ensures) (c .before .append .ensures) (c .append2 .ensures)
 

@@ -1,29 +1,22 @@
+-- The entry is kept in the place before the entries that are done, or it is not. Assumes nothing.
 use Rattle.table_delete.proofs.RowChanges.{put-none, put-one}
 use Rattle.page_tree.proofs.RowLaws.{length-row}
 use borrow.Author.Tests.{not-true, not-false}
 use lib.ListN.{length}
-use mathlib.Core.Path.{_≡_, refl, sym, _∙_}
-use native.Mathlib.Omega.{arith}
+use mathlib.Core.Path.{_≡_}
 use borrow.Author.Needs.{needs}
 use Rattle.table_delete.proofs.rows.put.Statement.{statement}
 use Rattle.table_delete.proofs.rows.put.Tie as tie
-use Rattle.table_delete.proofs.rows.put.Reads as reads
-use Rattle.table_delete.proofs.rows.put.Lts as lts
-use Rattle.page_tree.proofs.Row.replace.Reads as replace-reads
 
--- src/rows.rt:46:9
 returns : tie.Need-returns
 returns c = put-none _ _ _ (not-true _ (c .if1 .taken))
 
--- src/rows.rt:48:13
 sub-w : tie.Need-sub-w
 sub-w c = search needs
 
--- src/rows.rt:49:9
 replace-requires : tie.Need-replace-requires
 replace-requires c κs = search needs
 
--- src/rows.rt:41:1
 returns-2 : tie.Need-returns-2
 returns-2 c = let d : length (c .before .before .before .args .row .depths) ≡ 319 = search needs in let p : length (c .before .before .before .args .row .pointers) ≡ 319 = search needs in put-one _ _ _ _ (not-false _ (c .before .if1 .left)) (c .before .before .before .pre .0) (c .before .before .before .pre .1) (length-row _ (d, p) (c .before .before .before .pre .2)) (c .replace .ensures)
 

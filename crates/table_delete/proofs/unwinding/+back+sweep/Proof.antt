@@ -1,3 +1,4 @@
+-- Rank by rank: an entry is passed with the row of the page below it, and a row entry by entry. Assumes nothing.
 use Rattle.table_delete.proofs.SweepTurns.{Sweeping, sweep-start, sweep-joined, sweep-idle, sweep-out, sweep-read, sweep-back, sweep-put, sweep-step}
 use Rattle.table_delete.proofs.Sweeps.{back-fits, back-leaf, down-load, down-sweep, down-settle, back-up}
 use Prim.Native.Nat.{ℕ, _+_, _*_, _<_}
@@ -42,7 +43,6 @@ sweep-at t = and 1 sweep-kinds.ps (is 1 sweep-kinds.ps μ-sweep t) sweep.Pre
 abbrev sweep-below : ℕ → In 1 sweep-kinds.ps
 sweep-below t = and 1 sweep-kinds.ps (falls 1 sweep-kinds.ps _<_ μ-sweep t) sweep.Pre
 
--- src/unwinding.rt:23:9
 back-step-requires : (t : ℕ) → back-lts.Need-step-requires (
   step-reads.Asked,
   step-reads.Learnt,
@@ -57,7 +57,6 @@ back-step-requires : (t : ℕ) → back-lts.Need-step-requires (
 ) (back-at t) back.Post
 back-step-requires t c κs = back-fits _ (c .before .before .pre .1)
 
--- src/unwinding.rt:23:9
 back-returns : (t : ℕ) → back-lts.Need-returns (
   step-reads.Asked,
   step-reads.Learnt,
@@ -72,7 +71,6 @@ back-returns : (t : ℕ) → back-lts.Need-returns (
 ) (back-at t) back.Post
 back-returns t c = back-leaf _ _ _ (c .before .if1 .taken) (c .step .ensures)
 
--- src/unwinding.rt:25:9
 back-page-of-requires : (t : ℕ) → back-lts.Need-page-of-requires (
   step-reads.Asked,
   step-reads.Learnt,
@@ -87,7 +85,6 @@ back-page-of-requires : (t : ℕ) → back-lts.Need-page-of-requires (
 ) (back-at t) back.Post
 back-page-of-requires t c κs = back-fits _ (c .before .before .pre .1)
 
--- src/unwinding.rt:26:9
 back-load-page-requires : (t : ℕ) → back-lts.Need-load-page-requires (
   step-reads.Asked,
   step-reads.Learnt,
@@ -102,7 +99,6 @@ back-load-page-requires : (t : ℕ) → back-lts.Need-load-page-requires (
 ) (back-at t) back.Post
 back-load-page-requires t c κs = down-load _ _ (c .before .page-of .ensures) (c .before .before .if1 .left) (c .before .before .before .before .pre .1)
 
--- src/unwinding.rt:28:39
 back-sub-sweep : (t : ℕ) → back-lts.Need-sub-sweep (
   step-reads.Asked,
   step-reads.Learnt,
@@ -117,7 +113,6 @@ back-sub-sweep : (t : ℕ) → back-lts.Need-sub-sweep (
 ) (back-at t) back.Post
 back-sub-sweep t c = search needs
 
--- src/unwinding.rt:28:9
 back-sweep-requires : (t : ℕ) → back-lts.Need-sweep-requires (
   step-reads.Asked,
   step-reads.Learnt,
@@ -132,7 +127,6 @@ back-sweep-requires : (t : ℕ) → back-lts.Need-sweep-requires (
 ) (back-at t) back.Post
 back-sweep-requires t c κs = (let m = c .before .before .before .before .before .before .pre .0 in omega (arith, m, c .before .before .before .before .if1 .left), down-sweep _ _ _ (c .before .before .before .page-of .ensures) (c .before .before .before .before .if1 .left) (c .before .before .before .before .before .before .pre .1) (c .before .load-page .ensures) (omega (arith, c .before .before .before .before .before .before .fits .e)))
 
--- src/unwinding.rt:29:22
 back-sub-settle : (t : ℕ) → back-lts.Need-sub-settle (
   step-reads.Asked,
   step-reads.Learnt,
@@ -147,7 +141,6 @@ back-sub-settle : (t : ℕ) → back-lts.Need-sub-settle (
 ) (back-at t) back.Post
 back-sub-settle t c = search needs
 
--- src/unwinding.rt:29:5
 back-settle-requires : (t : ℕ) → back-lts.Need-settle-requires (
   step-reads.Asked,
   step-reads.Learnt,
@@ -162,7 +155,6 @@ back-settle-requires : (t : ℕ) → back-lts.Need-settle-requires (
 ) (back-at t) back.Post
 back-settle-requires t c κs = down-settle _ _ _ _ (c .before .before .before .before .before .before .before .page-of .ensures) (c .before .before .before .before .before .before .before .before .if1 .left) (c .before .before .before .before .before .before .before .before .before .before .pre .1) (c .before .before .before .before .before .load-page .ensures .count) refl (c .before .before .before .sweep .ensures)
 
--- src/unwinding.rt:18:1
 back-same-length : (t : ℕ) → back-lts.Need-same-length (
   step-reads.Asked,
   step-reads.Learnt,
@@ -177,7 +169,6 @@ back-same-length : (t : ℕ) → back-lts.Need-same-length (
 ) (back-at t) back.Post
 back-same-length t c = search needs
 
--- src/unwinding.rt:18:1
 back-returns-2 : (t : ℕ) → back-lts.Need-returns-2 (
   step-reads.Asked,
   step-reads.Learnt,
@@ -198,7 +189,6 @@ sweep-Inv-loop index₀ e pages rank left right r₀ i₀ at₀ s₀ index r i a
 abbrev sweep-μ-loop : sweep-lts.MeasureT-loop
 sweep-μ-loop index₀ e pages rank left right r₀ i₀ at₀ s₀ index r i at s = i
 
--- src/unwinding.rt:50:5
 sweep-loop-holds : (t : ℕ) → sweep-lts.Need-loop-holds (
   idle-reads.Asked,
   idle-reads.Learnt,
@@ -215,7 +205,6 @@ sweep-loop-holds : (t : ℕ) → sweep-lts.Need-loop-holds (
 ) (sweep-at t) sweep.Post sweep-Inv-loop sweep-μ-loop
 sweep-loop-holds t c = sweep-start _ (c .before .pre .1)
 
--- src/unwinding.rt:51:12
 sweep-idle-requires : (t : ℕ) → sweep-lts.Need-idle-requires (
   idle-reads.Asked,
   idle-reads.Learnt,
@@ -232,7 +221,6 @@ sweep-idle-requires : (t : ℕ) → sweep-lts.Need-idle-requires (
 ) (sweep-at t) sweep.Post sweep-Inv-loop sweep-μ-loop
 sweep-idle-requires t c κs = search needs
 
--- src/unwinding.rt:52:17
 sweep-joined-requires : (t : ℕ) → sweep-lts.Need-joined-requires (
   idle-reads.Asked,
   idle-reads.Learnt,
@@ -249,7 +237,6 @@ sweep-joined-requires : (t : ℕ) → sweep-lts.Need-joined-requires (
 ) (sweep-at t) sweep.Post sweep-Inv-loop sweep-μ-loop
 sweep-joined-requires t c κs = sweep-joined (c .before .before .before .loop .inv)
 
--- src/unwinding.rt:53:13
 sweep-same-length : (t : ℕ) → sweep-lts.Need-same-length (
   idle-reads.Asked,
   idle-reads.Learnt,
@@ -266,7 +253,6 @@ sweep-same-length : (t : ℕ) → sweep-lts.Need-same-length (
 ) (sweep-at t) sweep.Post sweep-Inv-loop sweep-μ-loop
 sweep-same-length t c = search needs
 
--- src/unwinding.rt:53:13
 sweep-returns : (t : ℕ) → sweep-lts.Need-returns (
   idle-reads.Asked,
   idle-reads.Learnt,
@@ -283,7 +269,6 @@ sweep-returns : (t : ℕ) → sweep-lts.Need-returns (
 ) (sweep-at t) sweep.Post sweep-Inv-loop sweep-μ-loop
 sweep-returns t c = sweep-idle (c .before .before .before .before .loop .inv) _ (c .joined .ensures) (c .before .before .idle .ensures .yes (c .before .if1 .taken))
 
--- src/unwinding.rt:55:9
 sweep-sub-i : (t : ℕ) → sweep-lts.Need-sub-i (
   idle-reads.Asked,
   idle-reads.Learnt,
@@ -300,7 +285,6 @@ sweep-sub-i : (t : ℕ) → sweep-lts.Need-sub-i (
 ) (sweep-at t) sweep.Post sweep-Inv-loop sweep-μ-loop
 sweep-sub-i t c = search needs
 
--- src/unwinding.rt:56:13
 sweep-depth-requires : (t : ℕ) → sweep-lts.Need-depth-requires (
   idle-reads.Asked,
   idle-reads.Learnt,
@@ -317,7 +301,6 @@ sweep-depth-requires : (t : ℕ) → sweep-lts.Need-depth-requires (
 ) (sweep-at t) sweep.Post sweep-Inv-loop sweep-μ-loop
 sweep-depth-requires t c κs = sweep-read (c .before .before .before .loop .inv) (c .before .before .loop-test .taken)
 
--- src/unwinding.rt:57:13
 sweep-pointer-requires : (t : ℕ) → sweep-lts.Need-pointer-requires (
   idle-reads.Asked,
   idle-reads.Learnt,
@@ -334,7 +317,6 @@ sweep-pointer-requires : (t : ℕ) → sweep-lts.Need-pointer-requires (
 ) (sweep-at t) sweep.Post sweep-Inv-loop sweep-μ-loop
 sweep-pointer-requires t c κs = sweep-read (c .before .before .before .before .loop .inv) (c .before .before .before .loop-test .taken)
 
--- src/unwinding.rt:58:13
 sweep-back-requires : (t : ℕ) → sweep-lts.Need-back-requires (
   idle-reads.Asked,
   idle-reads.Learnt,
@@ -351,7 +333,6 @@ sweep-back-requires : (t : ℕ) → sweep-lts.Need-back-requires (
 ) (sweep-at t) sweep.Post sweep-Inv-loop sweep-μ-loop
 sweep-back-requires t c κs = (let m = c .before .before .before .before .before .before .before .before .pre .0 in omega (arith, m), sweep-back (c .before .before .before .before .before .before .loop .inv) (c .before .before .before .before .before .loop-test .taken) _ _ (c .before .before .depth .ensures) (c .before .pointer .ensures))
 
--- src/unwinding.rt:60:13
 sweep-put-requires : (t : ℕ) → sweep-lts.Need-put-requires (
   idle-reads.Asked,
   idle-reads.Learnt,
@@ -368,7 +349,6 @@ sweep-put-requires : (t : ℕ) → sweep-lts.Need-put-requires (
 ) (sweep-at t) sweep.Post sweep-Inv-loop sweep-μ-loop
 sweep-put-requires t c κs = sweep-put (c .before .before .before .before .before .before .before .before .before .loop .inv) (c .before .before .before .before .before .before .before .before .loop-test .taken)
 
--- src/unwinding.rt:50:5
 sweep-loop-less : (t : ℕ) → sweep-lts.Need-loop-less (
   idle-reads.Asked,
   idle-reads.Learnt,
@@ -385,7 +365,6 @@ sweep-loop-less : (t : ℕ) → sweep-lts.Need-loop-less (
 ) (sweep-at t) sweep.Post sweep-Inv-loop sweep-μ-loop
 sweep-loop-less t c = search needs
 
--- src/unwinding.rt:50:5
 sweep-loop-again : (t : ℕ) → sweep-lts.Need-loop-again (
   idle-reads.Asked,
   idle-reads.Learnt,
@@ -402,7 +381,6 @@ sweep-loop-again : (t : ℕ) → sweep-lts.Need-loop-again (
 ) (sweep-at t) sweep.Post sweep-Inv-loop sweep-μ-loop
 sweep-loop-again t c = sweep-step (c .before .before .before .before .before .before .before .before .before .before .before .loop .inv) (c .before .before .before .before .before .before .before .before .before .before .loop-test .taken) _ _ (c .before .before .before .before .before .before .before .depth .ensures) (c .before .before .before .before .before .before .pointer .ensures) _ _ (c .before .before .before .before .back .ensures) _ (c .before .put .ensures)
 
--- src/unwinding.rt:64:9
 sweep-joined-requires-2 : (t : ℕ) → sweep-lts.Need-joined-requires-2 (
   idle-reads.Asked,
   idle-reads.Learnt,
@@ -419,7 +397,6 @@ sweep-joined-requires-2 : (t : ℕ) → sweep-lts.Need-joined-requires-2 (
 ) (sweep-at t) sweep.Post sweep-Inv-loop sweep-μ-loop
 sweep-joined-requires-2 t c κs = sweep-joined (c .before .loop .inv)
 
--- src/unwinding.rt:33:1
 sweep-same-length-2 : (t : ℕ) → sweep-lts.Need-same-length-2 (
   idle-reads.Asked,
   idle-reads.Learnt,
@@ -436,7 +413,6 @@ sweep-same-length-2 : (t : ℕ) → sweep-lts.Need-same-length-2 (
 ) (sweep-at t) sweep.Post sweep-Inv-loop sweep-μ-loop
 sweep-same-length-2 t c = search needs
 
--- src/unwinding.rt:33:1
 sweep-returns-2 : (t : ℕ) → sweep-lts.Need-returns-2 (
   idle-reads.Asked,
   idle-reads.Learnt,
