@@ -76,9 +76,11 @@ module _ (L : Layout) (P n : ℕ) (b : List ℕ) (before : List Ref) (x : Ref) (
   pub before-stays : UnchangedRow L n b b′ before
   before-stays = unchanged-row L b b′ n before keeps-before
 
+  -- So does what stands after it.
   pub after-stays : UnchangedRow L n b b′ after
   after-stays = unchanged-row L b b′ n after keeps-after
 
+  -- The row with what stands in the place of x.
   pub kept-at : Kept L P n b (metAll n (pagesAt L b) (before ++ x ∷ after)) b′ (before ++ row ++ after)
   kept-at = record {
     long = h .long;

@@ -24,6 +24,7 @@ use Rattle.table_delete.proofs.Frames.{linked-stays}
 use Rattle.table_delete.proofs.Settling.{settled-other, settled-refs, settled-cleared, settled-long, settled-front}
 use Rattle.table_delete.proofs.SweepTurns.{paged-then}
 
+-- The root page stands in the table.
 pub lower-within : {e P n : ℕ} {b : List ℕ} {p : ℕ} → LowerPre e P n b p → Within (layoutOf e) b p
 lower-within {e} {P} {n} {b} {p} h = within-table (layoutOf e) P p b (omega (arith, h .paged .table)) (h .sized .number)
 
@@ -44,6 +45,7 @@ stop p h z = record {
   low = omega arith;
 }
 
+-- A root of level 0 stays,
 pub lower-leaf : (n : ℕ) {e P : ℕ} {b : List ℕ} (p : PageNo) → n ≡ 0 → LowerPre e P n b (p .0) → LowerPost e P n b (p .0) b (record { page = p; level = n })
 lower-leaf zero p z h = stop p h refl
 lower-leaf (suc n) p z h = absurd (omega arith)
@@ -53,6 +55,7 @@ many n p [] h = refl
 many n p (x ∷ []) h = absurd (h refl)
 many n p (x ∷ y ∷ ys) h = refl
 
+-- and one with more entries than one.
 pub lower-stop : (n : ℕ) {e P : ℕ} {b : List ℕ} (p : PageNo) {c : ℕ} → (n ≡ 0 → ⊥) → LowerPre e P n b (p .0) → c ≡ countOf (pageBytes (layoutOf e) b (p .0)) → (c ≡ 1 → ⊥)
     → LowerPost e P n b (p .0) b (record { page = p; level = n })
 lower-stop zero p ne h s z = absurd (ne refl)
@@ -166,6 +169,7 @@ module _ (n : ℕ) {e P : ℕ} {b : List ℕ} {p c : ℕ} (d : ℕ) (b₁ : List
           let m : suc n - 1 ≡ n = omega arith in
           rw (m, k, f) (next h (refAt (layoutOf e) (pageBytes (layoutOf e) b p) 0) (only-is e b p c s z))
 
+  -- What is left below the child is left below the root.
   pub lower-post : (b₂ : List ℕ) (r : Root) → LowerPost e P (n - 1) b₁ d b₂ r → LowerPost e P n b p b₂ r
   lower-post b₂ r g = go n ne h g
     where

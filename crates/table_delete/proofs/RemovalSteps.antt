@@ -17,6 +17,7 @@ use Rattle.table_delete.specs.Removing.{RemovePre, LocatePost, RemovePos
 use Rattle.table_delete.proofs.Sweeps.{down-settle}
 use Rattle.table_delete.proofs.Removals.{found-down, found-sweep, found-post}
 
+-- The page below is to be searched.
 pub remove-locate : (n : ℕ) {e P : ℕ} {b : List ℕ} {x : Ref} {w key position : ℕ} (p : ℕ) → p ≡ x .1 → (n ≡ 0 → ⊥) → RemovePre e P n b x w key position
     → RemovePre e P (suc (n - 1)) b (x .0, p) w key position
 remove-locate zero p s ne h = absurd (ne refl)
@@ -27,6 +28,7 @@ pub found-read : {e n : ℕ} {b : List ℕ} {p w key position τ ν : ℕ} {l : 
     → (l .spot .at < l .row .count) × (l .row .count ≤ 319)
 found-read a few small = (omega (arith, a .row .count, a .stopped .inside), omega (arith, a .row .count))
 
+-- The page has at most e entries.
 pub remove-few : (n : ℕ) {e P : ℕ} {b : List ℕ} {x : Ref} {w key position : ℕ} (p : ℕ) → p ≡ x .1 → (n ≡ 0 → ⊥) → RemovePre e P n b x w key position → length (pagesAt (layoutOf e) b p) ≤ e
 remove-few zero p s ne h = absurd (ne refl)
 remove-few (suc n) p s ne h = rw s (h .sound .0 .few)
@@ -47,6 +49,7 @@ module _ (n : ℕ) {e P : ℕ} {b : List ℕ} {x : Ref} {w key position τ ν : 
     g-at : RemovePost e P (n - 1) b (getD (pagesAt (layoutOf e) b (x .1)) (l .spot .at) (0, 0)) w key (l .spot .position) (l .spot .trail) (l .next) b₁ r
     g-at = rw (df, qf, a .row .entries, s) at g
 
+    -- What was passed in the page is to be swept.
     pub remove-sweep : SweepPre e P (n - 1) b₁ (slot .row) (l .spot .at) (slot .at)
     remove-sweep = go n ne h (rw s at a) g-at
       where
@@ -57,9 +60,11 @@ module _ (n : ℕ) {e P : ℕ} {b : List ℕ} {x : Ref} {w key position τ ν : 
         go (suc n) ne h a g = let m : suc n - 1 ≡ n = omega arith in rw m (found-sweep h (rw m at a) small b₁ r (rw m at g) slot put)
 
     module _ (b₂ : List ℕ) (done : Swept) (t : SweepPost e P (n - 1) b₁ (slot .row) (l .spot .at) (slot .at) (r .state) b₂ done) where
+      -- The row that is left can be settled.
       pub remove-settle : SettlePre e b₂ p done
       remove-settle = down-settle n p b₂ done s ne (h .back) (put .count ∙ a .row .count) (g .kept .long) t
 
+      -- What is left of the entry.
       pub remove-post : (b₃ : List ℕ) (was : Remnant) → SettlePost e (n - 1) b₂ p done b₃ was → RemovePost e P n b x w key position τ ν b₃ was
       remove-post b₃ was u = go n ne h (rw s at a) g-at t (rw s at u)
         where

@@ -58,6 +58,7 @@ closed-end c (x ∷ y ∷ row) (suc i) h e = closed-end c (y ∷ row) i (h .1) (
 -- ---- the page below an entry
 
 module _ {e P n : ℕ} {b : List ℕ} {x : Ref} {w key position : ℕ} (h : RemovePre e P (suc n) b x w key position) where
+  -- The page below can be walked down,
   pub remove-descend : DescendPre b e P n (x .1) w key position
   remove-descend = record {
     closing = x .0;
@@ -70,12 +71,15 @@ module _ {e P n : ℕ} {b : List ℕ} {x : Ref} {w key position : ℕ} (h : Remo
     high = h .high;
   }
 
+  -- loaded,
   pub locate-load : Within (layoutOf e) b (x .1) × (length (pagesAt (layoutOf e) b (x .1)) ≤ e)
   locate-load = (descend-within remove-descend, h .sound .0 .few)
 
+  -- searched,
   pub locate-seek : SeekPre b e (x .1) w key position
   locate-seek = descend-seek remove-descend
 
+  -- and read behind the place found.
   pub locate-after : (row : Rattle.page_tree.specs.declared.Row.Row) → Holds row (length (pagesAt (layoutOf e) b (x .1))) (pagesAt (layoutOf e) b (x .1)) → e < 256 → AfterPre e P n b row
   locate-after row r l = record {
     paged = h .back .paged;
@@ -139,6 +143,7 @@ module _ {e P n : ℕ} {b : List ℕ} {x : Ref} {w key position τ ν : ℕ} {l 
   unfolding nodeAt
   row-low = h .depths
 
+  -- The entry found is one to remove from.
   pub found-down : RemovePre e P n b y w key (l .spot .position)
   found-down = record {
     back = mid-back front y rest (h .back .paged) linked owned;
@@ -220,6 +225,7 @@ module _ {e P n : ℕ} {b : List ℕ} {x : Ref} {w key position τ ν : ℕ} {l 
     one-kept : Kept L P n b (metAll n pages (front ++ y ∷ rest)) b₁ (around (slot .row) i (slot .at))
     one-kept = rw now-is (rw (append-assoc front (parts r) rest) at (kept-at L P n b front y rest owned linked b₁ (parts r) (g .kept)))
 
+    -- The entries before it are to be swept.
     pub found-sweep : SweepPre e P n b₁ (slot .row) i (slot .at)
     found-sweep = record {
       paged = paged-then (g .kept .long) (h .back .paged);
@@ -245,6 +251,7 @@ module _ {e P n : ℕ} {b : List ℕ} {x : Ref} {w key position τ ν : ℕ} {l 
         ∙ ap (λ (t : Unwind). sweep (stepNumbered n) t (numbersAt n pages front) (struck .0 ++ numbersAt n pages rest)) (g .state)
         ∙ sym whole-is
 
+    -- What is left, once the page is settled, is what figure 11 leaves.
     pub found-post : (b₂ : List ℕ) (done : Swept) → SweepPost e P n b₁ (slot .row) i (slot .at) (r .state) b₂ done → (b₃ : List ℕ) (was : Remnant) → SettlePost e n b₂ (x .1) done b₃ was
         → RemovePost e P (suc n) b x w key position τ ν b₃ was
     unfolding numberedAt

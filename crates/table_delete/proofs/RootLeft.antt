@@ -19,6 +19,7 @@ pub record LeftAtRoot (E n : ℕ) (left : List (Node (suc n))) : Type 0 where
   pub sound : Sound E (suc n) root
   pub shallow : depth (suc n) root ≡ 0
 
+-- Something is left, for nothing is shallower than depth 0.
 pub root-left : (E : ℕ) (bs : List ℕ) (t : Tree) → SoundTree E t → Rising bs → depth (suc (t .0)) (t .1) ≡ 0 → Beyond 0 bs → Neighbours (leavesOf t)
     → LeftAtRoot E (t .0) (deleteBelow (suc (t .0)) 0 bs 0 (t .1) .0)
 root-left E bs t s a z e r =
@@ -45,5 +46,6 @@ pub record SoundRoot (E : ℕ) (t : Tree) : Type 0 where
   pub rule : RootRule t
   pub shallow : depth (suc (t .0)) (t .1) ≡ 0
 
+-- So is what the root rule makes of a sound page.
 pub lowered-root : (E n : ℕ) (page : Node (suc n)) → Sound E (suc n) page → depth (suc n) page ≡ 0 → SoundRoot E (lower n page)
 lowered-root E n page s z = record { sound = lower-sound E n page s; rule = lower-root E n page s; shallow = lower-depth n page ∙ z }

@@ -61,6 +61,7 @@ joined-row row new first r i w l m z f g = record {
 
 -- ---- settle
 
+-- The row can be stored.
 pub settle-storable : (e : ℕ) (b : List ℕ) (p : ℕ) (done : Swept) → e ≤ 255 → SettlePre e b p done → Storable e b p (done .row) 0 (done .row .count)
 settle-storable e b p done l h = record { within = h .within; order = omega arith; places = omega (arith, h .few); few = omega (arith, h .few); fitting = rw (back-part (done .row) 0) (h .fitting) }
 
@@ -79,10 +80,12 @@ last-at τ zero (x ∷ []) h = refl
 last-at τ zero (x ∷ y ∷ l) h = absurd (omega arith)
 last-at τ (suc n) (x ∷ l) h = last-at (depthOf x) n l (omega arith)
 
+-- Nothing is left of the row: the page is freed.
 pub settle-none : (e level : ℕ) (b : List ℕ) (p : ℕ) (done : Swept) (b′ : List ℕ) (r : Remnant) → done .row .count ≡ 0 → b′ ≡ store (layoutOf e) b p (replicate (pageSize (layoutOf e)) 0)
     → r .stays ≡ false → r .state ≡ done .state → SettlePost e level b p done b′ r
 settle-none e level b p done b′ r z h s t = record { bytes = rw z h; entries = rw (z, s) refl; state = t }
 
+-- Something is left: the page is stored.
 pub settle-some : (e level : ℕ) (b : List ℕ) (p : ℕ) (done : Swept) (b′ : List ℕ) (r : Remnant) → (done .row .count ≡ 0 → ⊥) → length (rowOf (done .row)) ≡ done .row .count
     → b′ ≡ store (layoutOf e) b p (rowPage e level (partOf (done .row) 0 (done .row .count)))
     → r .stays ≡ true → r .depth ≡ depthOf (getD (rowOf (done .row)) (done .row .count - 1) (0, 0)) → r .pointer ≡ p → r .state ≡ done .state → SettlePost e level b p done b′ r

@@ -59,6 +59,7 @@ module _ (e n : ℕ) (b : List ℕ) (p : ℕ) (row : List Ref) (within : Within 
   pub settled-long : length (settled e n b p row) ≡ length b
   settled-long = length-store (layoutOf e) b p (settledPage e n row)
 
+  -- So does what stands before the pages.
   pub settled-front : take 16 (settled e n b p row) ≡ take 16 b
   settled-front = front-store (layoutOf e) b p (settledPage e n row)
 

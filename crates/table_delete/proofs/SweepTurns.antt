@@ -55,6 +55,7 @@ module _ (L : Layout) (P : ℕ) (b : List ℕ) where
 all-mid : (Q : Ref → Type 0) (xs : List Ref) (y : Ref) (ys : List Ref) → All Q (xs ++ y ∷ ys) → Q y
 all-mid Q xs y ys h = all-right Q xs (y ∷ ys) h .0
 
+-- One of a row counts at most what all do.
 pub met-mid : (f : Ref → ℕ) (xs : List Ref) (y : Ref) (ys : List Ref) → f y ≤ sum f (xs ++ y ∷ ys)
 met-mid f [] y ys = omega arith
 met-mid f (x ∷ xs) y ys = omega (arith, met-mid f xs y ys)
@@ -68,11 +69,13 @@ mid-back {e} {P} {n} {b} xs y ys t g o = record {
   own = λ q. omega (arith, o q, met-mid (λ z. met n (pagesAt (layoutOf e) b) z q) xs y ys);
 }
 
+-- A table of the same length has the same pages.
 pub paged-then : {e P : ℕ} {b b′ : List ℕ} → length b′ ≡ length b → Paged e P b → Paged e P b′
 paged-then l t = record { table = l ∙ t .table; high = t .high }
 
 -- ---- the loop
 
+-- The row in the loop: the entries before i are to be passed, those from w on are done.
 pub record Sweeping (e P n : ℕ) (b₀ : List ℕ) (row₀ : Row) (i₀ w₀ : ℕ) (s₀ : Unwind) (b : List ℕ) (row : Row) (i w : ℕ) (s : Unwind) : Type 0 where
   pub pre : SweepPre e P n b₀ row₀ i₀ w₀
   pub count : row .count ≡ row₀ .count
@@ -82,6 +85,7 @@ pub record Sweeping (e P n : ℕ) (b₀ : List ℕ) (row₀ : Row) (i₀ w₀ : 
   pub kept : Kept (layoutOf e) P n b₀ (metAll n (pagesAt (layoutOf e) b₀) (around row₀ i₀ w₀)) b (around row i w)
   pub whole : sweepAt e n b row i w s ≡ sweepAt e n b₀ row₀ i₀ w₀ s₀
 
+-- At first,
 pub sweep-start : {e P n : ℕ} {b : List ℕ} {row : Row} {i w : ℕ} (s : Unwind) → SweepPre e P n b row i w → Sweeping e P n b row i w s b row i w s
 sweep-start {e} {P} {n} {b} {row} {i} {w} s h = record {
   pre = h;
@@ -103,6 +107,7 @@ module _ {e P n : ℕ} {b₀ : List ℕ} {row₀ : Row} {i₀ w₀ : ℕ} {s₀ 
   abbrev after : List Ref
   after = drop w (rowOf row)
 
+  -- the parts that stay can be joined.
   pub sweep-joined : (i ≤ w) × (w ≤ row .count) × (row .count ≤ 319)
   sweep-joined = (h .left, h .right, omega (arith, h .count, h .pre .small))
 
@@ -141,6 +146,7 @@ module _ {e P n : ℕ} {b₀ : List ℕ} {row₀ : Row} {i₀ w₀ : ℕ} {s₀ 
     abbrev y : Ref
     y = getD (rowOf row) (i - 1) (0, 0)
 
+    -- The next entry can be read,
     pub sweep-read : (i - 1 < row .count) × (row .count ≤ 319)
     sweep-read = (omega (arith, h .left, h .right), omega (arith, h .count, h .pre .small))
 
@@ -156,9 +162,11 @@ module _ {e P n : ℕ} {b₀ : List ℕ} {row₀ : Row} {i₀ w₀ : ℕ} {s₀ 
     owned′ : Owned L b (metAll n (pagesAt L b) (front ++ y ∷ after))
     owned′ = rw around-is at owned
 
+    -- passed with all below it,
     pub sweep-back : (d p : ℕ) → d ≡ y .0 → p ≡ y .1 → BackPre e P n b (d, p)
     sweep-back d p f g = rw (f, g) (mid-back front y after (paged-then (h .kept .long) (h .pre .paged)) linked′ owned′)
 
+    -- and what is left of it put before those that are done.
     pub sweep-put : (1 ≤ w) × (w ≤ row .count) × (row .count ≤ 319)
     sweep-put = (omega (arith, h .left), h .right, omega (arith, h .count, h .pre .small))
 
@@ -191,6 +199,7 @@ module _ {e P n : ℕ} {b₀ : List ℕ} {row₀ : Row} {i₀ w₀ : ℕ} {s₀ 
           ∙ ap (λ (l : List (Numbered n)). sweep (stepNumbered n) s l (numbersAt n (pagesAt L b) after))
           (sym (map-append (numberedAt 65535 n (pagesAt L b)) front (y ∷ [])) ∙ ap (numbersAt n (pagesAt L b)) (sym before-is))
 
+      -- So the loop goes on.
       pub sweep-step : Sweeping e P n b₀ row₀ i₀ w₀ s₀ b′ (slot .row) (i - 1) (slot .at) (r .state)
       sweep-step = record {
         pre = h .pre;

@@ -45,10 +45,12 @@ leaf-done e P b x o r t = record {
   state = t .state;
 }
 
+-- The pointer of a linked entry fits its two bytes.
 pub back-fits : (n : ℕ) {e P : ℕ} {b : List ℕ} {x : Ref} → BackPre e P n b x → x .1 < 65536
 back-fits zero h = h .linked
 back-fits (suc n) h = omega (arith, h .linked .0 .number, h .paged .high)
 
+-- An entry of level 0 is passed.
 pub back-leaf : (n : ℕ) {e P : ℕ} {b : List ℕ} {x : Ref} (s : Unwind) (r : Remnant) → n ≡ 0 → Turned r (stepEntry s (leafOf 65535 x)) → BackPost e P n b x s b r
 unfolding numberedAt
 back-leaf zero {e} {P} {b} {x} s r z t = leaf-done e P b x (stepEntry s (leafOf 65535 x)) r t
@@ -59,11 +61,13 @@ back-leaf (suc n) s r z t = absurd (omega arith)
 paged-within : {e P : ℕ} {b : List ℕ} (p : ℕ) → Paged e P b → p < P → Within (layoutOf e) b p
 paged-within {e} {P} {b} p h l = within-table (layoutOf e) P p b (omega (arith, h .table)) l
 
+-- The page below can be loaded.
 pub down-load : (n : ℕ) {e P : ℕ} {b : List ℕ} {x : Ref} (p : ℕ) → p ≡ x .1 → (n ≡ 0 → ⊥) → BackPre e P n b x
     → Within (layoutOf e) b p × (length (pagesAt (layoutOf e) b p) ≤ e)
 down-load zero p s ne h = absurd (ne refl)
 down-load (suc n) {e} {P} {b} {x} p s ne h = rw s (paged-within (x .1) (h .paged) (h .linked .0 .number), h .linked .0 .few)
 
+-- The pages below its row may be changed.
 pub row-owned : (e P n : ℕ) (b : List ℕ) (x : Ref) → BackPre e P (suc n) b x → Owned (layoutOf e) b (metAll n (pagesAt (layoutOf e) b) (pagesAt (layoutOf e) b (x .1)))
 unfolding met
 row-owned e P n b x h q = omega (arith, h .own q)
@@ -79,6 +83,7 @@ whole-row row es h =
 around-all : (row : Row) (es : List Ref) → Holds row (length es) es → around row (row .count) (row .count) ≡ es
 around-all row es h = let w = whole-row row es h in ap₂ (λ (l m : List Ref). l ++ m) (w .0) (w .1) ∙ append-nil es
 
+-- Its whole row is to be swept.
 pub down-sweep : (n : ℕ) {e P : ℕ} {b : List ℕ} {x : Ref} (p : ℕ) (row : Row) → p ≡ x .1 → (n ≡ 0 → ⊥) → BackPre e P n b x
     → Holds row (length (pagesAt (layoutOf e) b p)) (pagesAt (layoutOf e) b p) → e < 256 → SweepPre e P (n - 1) b row (row .count) (row .count)
 down-sweep zero p row s ne h i l = absurd (ne refl)
@@ -130,6 +135,7 @@ up-done {e} {P} {n} {b} {x} h o b₁ done k t s f b₂ r g =
       state = g .state ∙ s;
     }
 
+-- An entry is passed with all below it.
 pub back-up : (n : ℕ) {e P : ℕ} {b : List ℕ} {x : Ref} (s : Unwind) (p : ℕ) (row : Row) → p ≡ x .1 → (n ≡ 0 → ⊥) → BackPre e P n b x
     → Holds row (length (pagesAt (layoutOf e) b p)) (pagesAt (layoutOf e) b p) → (b₁ : List ℕ) (done : Swept)
     → SweepPost e P (n - 1) b row (row .count) (row .count) s b₁ done → (b₂ : List ℕ) (r : Remnant) → SettlePost e (n - 1) b₁ p done b₂ r → BackPost e P n b x s b₂ r

@@ -40,13 +40,14 @@ head-of d (x ∷ xs) = x
 
 module _ (e P : ℕ) (b : List ℕ) (level root : ℕ) (s : SoundRoot e (treeAt 65535 (pagesAt (layoutOf e) b) level root))
     (x : Linked (layoutOf e) P (suc level) b (lastDepth depthOf 0 (pagesAt (layoutOf e) b root), root)) where
-  -- So are its pages.
+  -- So are its pages,
   pub root-sound : SoundBelow (layoutOf e) P (suc level) b (rootRef root)
   unfolding nodeAt
   root-sound =
       let z : lastDepth depthOf 0 (pagesAt (layoutOf e) b root) ≡ 0 = sym (linked-depth e P b (suc level) (lastDepth depthOf 0 (pagesAt (layoutOf e) b root), root) x) ∙ s .shallow in
       subst (λ (c : ℕ). SoundBelow (layoutOf e) P (suc level) b (c, root)) z (linked-sound e P b (suc level) (lastDepth depthOf 0 (pagesAt (layoutOf e) b root), root) x (s .sound))
 
+  -- and the root rule holds.
   pub root-rule : 1 ≤ level → 2 ≤ length (pagesAt (layoutOf e) b root)
   unfolding nodeAt
   root-rule h = let k = s .rule h in omega (arith, k, length-map (pagesAt (layoutOf e) b root) (nodeAt 65535 level (pagesAt (layoutOf e) b)))
@@ -57,9 +58,11 @@ module _ {b : List ℕ} {e P level root w key : ℕ} (pre : TakePre b e P level 
   abbrev L : Layout
   L = layoutOf e
 
+  -- The rank of the root's entry is a byte.
   pub take-level : level < 255
   take-level = omega (arith, pre .tree .pages .level-high)
 
+  -- The root's entry is one to remove from.
   pub take-remove : Bytes b → (position p : ℕ) → NextPosition w key 0 position → p ≡ root → RemovePre e P (level + 1) b (0, p) w key position
   take-remove bytes position p next z = rw (z, add-one level) (record {
     back = record {
@@ -112,9 +115,11 @@ module _ {b : List ℕ} {e P level root w key : ℕ} (pre : TakePre b e P level 
     unfolding met
     met-is q = omega arith
 
+    -- The page that is left has a number,
     pub take-fits : x .pointer < 65536
     take-fits = omega (arith, kept .linked .0 .0 .number, pre .tree .pages-high)
 
+    -- and the root rule can be applied to it.
     pub take-lower : (page : ℕ) → page ≡ x .pointer → LowerPre e P level b₁ page
     take-lower page y = rw y (record {
       paged = paged-then {b = b} (kept .long) (record { table = pre .tree .table; high = pre .tree .pages-high });
@@ -161,5 +166,6 @@ module _ {b : List ℕ} {e P level root w key : ℕ} (pre : TakePre b e P level 
         tree = g .tree ∙ rooted-is;
       }
 
+    -- The tree without the entry found.
     pub take-post : (page : ℕ) → page ≡ x .pointer → (b₂ : List ℕ) (r : Root) → LowerPost e P level b₁ page b₂ r → TakePost b e P level root w key b₂ r
     take-post page y b₂ r g = take-post-at (rw y at g)

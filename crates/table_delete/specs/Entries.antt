@@ -28,6 +28,7 @@ isIdle Idle = true
 isIdle (Give d) = false
 isIdle (Clear d) = false
 
+-- Whether nothing is asked.
 pub record IdlePost (s : Unwind) (r : Bool) : Type 0 where
   pub is : r ≡ isIdle s
   pub yes : r ≡ true → s ≡ Idle

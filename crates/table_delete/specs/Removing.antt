@@ -32,6 +32,7 @@ pub record FirstPost (n : ℕ) (pages : Pages) (x : Ref) (r : ℕ) : Type 0 wher
 abbrev pub followingAt : (n : ℕ) → Pages → ℕ → List Ref → ℕ
 followingAt n pages ν row = nextDepth ν (flats (leaves n) (map (nodeAt 65535 n pages) row))
 
+-- A row whose entries can be read.
 pub record AfterPre (e P n : ℕ) (b : List ℕ) (row : Row) : Type 0 where
   pub paged : Paged e P b
   pub linked : All (Linked (layoutOf e) P n b) (rowOf row)
@@ -54,5 +55,6 @@ pub record LocatePost (e n : ℕ) (b : List ℕ) (page w key position τ ν : �
   pub stopped : Stopped w key position τ (pagesAt (layoutOf e) b page) (r .spot)
   pub following : r .next ≡ followingAt n (pagesAt (layoutOf e) b) ν (drop (suc (r .spot .at)) (pagesAt (layoutOf e) b page))
 
+-- Figure 11 below an entry, between the depths τ and ν.
 abbrev pub RemovePost : (e P n : ℕ) (b : List ℕ) (x : Ref) (w key position τ ν : ℕ) (b′ : List ℕ) (r : Remnant) → Type 0
 RemovePost e P n b x w key position τ ν b′ r = Done e P n b x (deleteNumbered n ν (leftFrom w key position) τ (numberedAt 65535 n (pagesAt (layoutOf e) b) x)) b′ r

@@ -46,6 +46,7 @@ pub record SettlePre (e : ℕ) (b : List ℕ) (p : ℕ) (done : Swept) : Type 0 
   pub few : done .row .count ≤ e
   pub fitting : Fitting 2 (rowOf (done .row))
 
+-- What is left of the entry that points at the page.
 pub record SettlePost (e level : ℕ) (b : List ℕ) (p : ℕ) (done : Swept) (b′ : List ℕ) (r : Remnant) : Type 0 where
   pub bytes : b′ ≡ settled e level b p (rowOf (done .row))
   pub entries : parts r ≡ entryFor p (rowOf (done .row))

@@ -30,6 +30,7 @@ pub record Done (e P n : ℕ) (b : List ℕ) (x : Ref) (o : Left (Numbered n)) (
   pub numbers : numbersAt n (pagesAt (layoutOf e) b′) (parts r) ≡ o .0
   pub state : r .state ≡ o .1
 
+-- The entry is passed, with what is asked.
 abbrev pub BackPost : (e P n : ℕ) (b : List ℕ) (x : Ref) (s : Unwind) (b′ : List ℕ) (r : Remnant) → Type 0
 BackPost e P n b x s b′ r = Done e P n b x (stepNumbered n s (numberedAt 65535 n (pagesAt (layoutOf e) b) x)) b′ r
 
@@ -43,9 +44,11 @@ pub record SweepPre (e P n : ℕ) (b : List ℕ) (row : Row) (i w : ℕ) : Type 
   pub linked : All (Linked (layoutOf e) P n b) (around row i w)
   pub own : Owned (layoutOf e) b (metAll n (pagesAt (layoutOf e) b) (around row i w))
 
+-- What the entries before i leave, before those from w on.
 abbrev pub sweepAt : (e n : ℕ) (b : List ℕ) (row : Row) (i w : ℕ) (s : Unwind) → Left (Numbered n)
 sweepAt e n b row i w s = sweep (stepNumbered n) s (numbersAt n (pagesAt (layoutOf e) b) (take i (rowOf row))) (numbersAt n (pagesAt (layoutOf e) b) (drop w (rowOf row)))
 
+-- The row that is left.
 pub record SweepPost (e P n : ℕ) (b : List ℕ) (row : Row) (i w : ℕ) (s : Unwind) (b′ : List ℕ) (r : Swept) : Type 0 where
   pub kept : Kept (layoutOf e) P n b (metAll n (pagesAt (layoutOf e) b) (around row i w)) b′ (rowOf (r .row))
   pub numbers : numbersAt n (pagesAt (layoutOf e) b′) (rowOf (r .row)) ≡ sweepAt e n b row i w s .0

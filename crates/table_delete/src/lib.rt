@@ -39,7 +39,7 @@ fn lower(index: &mut [u8], e: u8, pages: u16, level: u8, page: PageNo) -> Root
     lower(index, e, pages, level - 1, below)
 }
 
-// A key is taken out of the tree below a root, which holds it: the root that is left.
+// The entry that figure 6 finds for a key is taken out of the tree below a root: the root that is left.
 pub fn take_out(
     index: &mut [u8],
     e: u8,
