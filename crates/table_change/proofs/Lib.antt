@@ -4,3 +4,4 @@ pub mod Rerooted
 pub mod SoundAfter
 pub mod FoundEntries
 pub mod Changed
+pub mod Repaged

@@ -1,3 +1,4 @@
 // On and off in sound tables.
 pub mod entries;
+pub mod pages;
 pub mod rows;
