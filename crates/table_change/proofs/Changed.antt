@@ -25,9 +25,10 @@ use Rattle.index_table.specs.Pages.{pagesAt, leafOf, numberedTreeAt}
 use Rattle.index_table.specs.Soundness.{Sound, SoundPages, rootLevel, treeOf, numberedTreeOf}
 use Rattle.index_table.specs.Standing.{TreeTable}
 use Rattle.index_table.proofs.SoundTables.{header-long, leaf-depths}
-use Rattle.table_change.specs.Changes.{treeAfterOn, OnDone, OffDone}
+use Rattle.table_change.specs.Changes.{treeAfterOn, OnDone, HeldKey, OffDone}
 use Rattle.table_change.specs.Entries.{entriesIn}
 use Rattle.table_change.specs.News.{foundFor, NewsFor, NewKey}
+use Rattle.table_change.specs.Repaging.{Repaged, OnPages, always, treeWith, numberedWith}
 use Rattle.table_change.proofs.Rerooted.{after-length, after-header, after-sound, after-tree}
 use Rattle.table_change.proofs.SoundAfter.{numbered-tree, on-keeps-sound, off-keeps-sound}
 
@@ -44,7 +45,7 @@ module _ {index keys used : List ℕ} (s : Sound index keys used) where
   abbrev w : ℕ
   w = widthOf index
 
-  held-high : heldOf index ≤ 65534
+  pub held-high : heldOf index ≤ 65534
   held-high = omega (arith, s .held, count-in-use used, s .limits .records-high)
 
   -- The tree of sound tables may be changed.
@@ -110,26 +111,36 @@ module _ {index keys used : List ℕ} (s : Sound index keys used) where
           key-set = refl;
           byte-set = refl;
           sound =
-              on-keeps-sound s key r (new .inside) (new .free) (new .absent) (tableWith (suc (heldOf index))) fresh (new .narrow) header
+              on-keeps-sound s key r (new .free-record .inside) (new .free-record .free) (new .absent) (tableWith (suc (heldOf index))) fresh (new .free-record .narrow) header
               (after-length index b′ p (suc (heldOf index)) level root-fits fits long-enough front ∙ long)
               (after-sound index b′ p (suc (heldOf index)) level root-fits fits long-enough front pages) read;
         }
-
--- The entries of a row, whatever is found.
-abbrev pub always : Row → Replacement
-always news bs τ e = entriesIn news
 
 -- Where the row's entries are those that belong to the entry found, putting them in is on.
 module _ {index keys : List ℕ} {key r : ℕ} {news : Row} (n : NewsFor index keys key r news) where
   abbrev belonging : Replacement
   belonging = newEntries (λ x. bits (widthOf index) (keyAt keys x)) (bits (widthOf index) key) r
 
-  pub tree-after : insertTree (entriesOf index) (always news) (positions 0 (bits (widthOf index) key)) (treeOf index) ≡ treeAfterOn index keys key r
+  pub tree-after : treeWith index key news ≡ treeAfterOn index keys key r
   tree-after = insertTree-here (entriesOf index) (always news) belonging (positions 0 (bits (widthOf index) key)) (treeOf index) (n .entries)
 
   pub numbered-after : (fresh : ℕ → List ℕ)
-      → insertNumberedTree (entriesOf index) fresh (always news) (positions 0 (bits (widthOf index) key)) (numberedTreeOf index)
-      ≡ onNumbered (entriesOf index) fresh (widthOf index) (keyAt keys) key r (numberedTreeOf index)
+      → numberedWith fresh index key news ≡ onNumbered (entriesOf index) fresh (widthOf index) (keyAt keys) key r (numberedTreeOf index)
   numbered-after fresh =
       insertNumberedTree-here (entriesOf index) (always news) belonging fresh (positions 0 (bits (widthOf index) key)) (numberedTreeOf index)
       (subst (λ (t : Tree). AgreeAt (always news) belonging (findIn (positions 0 (bits (widthOf index) key)) t)) (sym (numbered-tree index)) (n .entries))
+
+-- Off, from the pages that it leaves.
+pub off-taken : {index keys used : List ℕ} {key r : ℕ} {index₁ : List ℕ} → HeldKey index keys used key r
+    → Repaged index (offNumbered (widthOf index) key (numberedTreeOf index)) (heldOf index - 1) index₁ → OffDone index keys used key index₁ (set keys r 0) (set used r 0)
+off-taken {index} {keys} {used} {key} {r} {index₁} h p =
+    subst (λ (b : List ℕ). OffDone index keys used key b (set keys r 0) (set used r 0)) (sym (p .written))
+    (off-done (h .sound) (p .bytes) (p .level) (p .root) (p .long) (p .front) (p .pages) key r (h .narrow) (h .found) (p .tree))
+
+-- On, from the pages that it leaves.
+pub on-put : {index keys used : List ℕ} {key r : ℕ} {news : Row} {index₁ : List ℕ} → NewKey index keys used key r news → OnPages index key news index₁
+    → OnDone index keys used key r index₁ (set keys r key) (set used r 1)
+on-put {index} {keys} {used} {key} {r} {news} {index₁} h p =
+    let q = p .repaged in
+    subst (λ (b : List ℕ). OnDone index keys used key r b (set keys r key) (set used r 1)) (sym (q .written))
+    (on-done (h .free-record .sound) (q .bytes) (q .level) (q .root) (q .long) (q .front) (q .pages) key r news (p .fresh) h (p .free) (q .tree ∙ numbered-after (h .news-for) (p .fresh)))

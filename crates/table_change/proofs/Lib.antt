@@ -5,3 +5,5 @@ pub mod SoundAfter
 pub mod FoundEntries
 pub mod Changed
 pub mod Repaged
+pub mod RowChoice
+pub mod Entering

@@ -108,4 +108,3 @@ module _ {index : List ℕ} {key : ℕ} (c : Changeable index key) (h : Index) (
             free = q .free;
             repaged = record { bytes = b; level = r .level; root = r .page .0; long = q .long; front = q .front; pages = q .pages; tree = q .tree; written = rw (← i .held, ← add-one (h .held), ← f) g };
           }
-

@@ -4,7 +4,7 @@ use mathlib.Core.Bool.{Bool, false, cond}
 use mathlib.Core.Option.{none}
 use mathlib.Core.List.{List}
 use Prim.Native.Nat.{ℕ, suc, _^_, _≤_, _<_}
-use lib.Dec.{eqb, ltb}
+use lib.Dec.{eqb}
 use lib.ListN.{length}
 use Rattle.leaf_list.specs.Keys.{bits}
 use Rattle.leaf_list.specs.Entries.{depthOf}
@@ -19,7 +19,6 @@ use Rattle.page_tree.specs.declared.Row.{Row}
 use Rattle.index_table.specs.Layout.{Ref, Fitting}
 use Rattle.index_table.specs.Header.{widthOf}
 use Rattle.index_table.specs.Soundness.{Sound, treeOf}
-use Rattle.table_change.specs.Changes.{rowEight, rowSeven}
 use Rattle.table_change.specs.Entries.{entriesIn}
 
 -- The key of the record that a pointer of level 0 means is key.
@@ -39,15 +38,15 @@ pub record NewsFor (index keys : List ℕ) (key r : ℕ) (news : Row) : Type 0 w
   pub few : news .count ≤ suc (widthOf index)
   pub closed : Closed (λ (y : Ref). y .0) (depthOf (foundFor index key .2)) (rowOf news)
 
--- A key that rows 2 to 5 let pass, with its entries.
-pub record NewKey (index keys used : List ℕ) (key r : ℕ) (news : Row) : Type 0 where
+-- A key and a record that rows 2 to 4 let pass.
+pub record FreeRecord (index keys used : List ℕ) (key r : ℕ) : Type 0 where
   pub sound : Sound index keys used
   pub narrow : key < 2 ^ widthOf index
   pub inside : r < length used
   pub free : inUse used r ≡ false
+
+-- A key that rows 2 to 5 let pass, with its entries.
+pub record NewKey (index keys used : List ℕ) (key r : ℕ) (news : Row) : Type 0 where
+  pub free-record : FreeRecord index keys used key r
   pub absent : lookup key (herdOf keys used) ≡ none
   pub news-for : NewsFor index keys key r news
-
--- Row 8, then row 7.
-abbrev pub lateRow : List ℕ → List ℕ → ℕ → ℕ → ℕ
-lateRow index keys key r = cond (rowEight index keys key r) 8 (cond (rowSeven index keys key r) 7 0)

@@ -1,4 +1,6 @@
 // On and off in sound tables.
 pub mod entries;
+pub mod off;
+pub mod on;
 pub mod pages;
 pub mod rows;

@@ -16,15 +16,7 @@ pub fn strike_pages(index: &mut [u8], key: u64)
 {
     let h = index_table::header::read(index);
     let level = index_table::layout::level(index, h.entries, h.root);
-    let root = table_delete::take_out(
-        index,
-        h.entries,
-        h.pages,
-        level,
-        h.root,
-        wide(h.width),
-        key,
-    );
+    let root = table_delete::take_out(index, h.entries, h.pages, level, h.root, wide(h.width), key);
     index_table::write::set_root(index, root.page);
     index_table::write::set_held(index, h.held - 1);
 }

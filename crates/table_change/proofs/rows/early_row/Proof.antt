@@ -9,14 +9,10 @@ use native.Mathlib.Omega.{arith}
 use lib.Dec.{leb}
 use lib.ListN.{length, getD}
 use Rattle.table_change.specs.Changes.{tooWide, onRow}
+use Rattle.table_change.proofs.RowChoice.{wide-is}
 use Rattle.table_change.proofs.rows.early_row.Statement.{statement}
 use Rattle.table_change.proofs.rows.early_row.Tie as tie
 
--- The test of the width that was read.
-wide-is : {w v : ℕ} (key : ℕ) {t u : Bool} → w ≡ v → t ≡ leb (2 ^ w) key → t ≡ u → tooWide v key ≡ u
-wide-is key e q p = ap (λ (n : ℕ). leb (2 ^ n) key) (sym e) ∙ sym q ∙ p
-
--- src/rows.rt:27:28
 width-requires : tie.Need-width-requires
 width-requires c κs = search needs
 

@@ -1,0 +1,59 @@
+-- A key that is not held, with a free record: its entries, and the rows that are left. Assumes nothing.
+use mathlib.Core.Path.{_≡_, sym, subst, _∙_}
+use mathlib.Core.Bool.{Bool, true, false}
+use mathlib.Core.Logic.{_≢_}
+use mathlib.Core.List.{List}
+use Prim.Native.Nat.{ℕ, _<_}
+use native.Mathlib.Omega.{arith}
+use lib.ListN.{length}
+use Rattle.leaf_list.specs.Herd.{lookup}
+use Rattle.leaf_list.specs.Register.{herdOf}
+use Rattle.page_tree.specs.declared.Row.{Row}
+use Rattle.index_table.specs.Header.{widthOf}
+use Rattle.table_search.specs.declared.Leaf.{Leaf}
+use Rattle.table_calls.specs.Places.{FoundLeaf}
+use Rattle.table_calls.proofs.FoundLeaves.{live-inside}
+use Rattle.table_change.specs.Changes.{isHeld, onRowOf}
+use Rattle.table_change.specs.Entries.{FoundPre, NewEntries}
+use Rattle.table_change.specs.News.{keyIs, FreeRecord, NewKey}
+use Rattle.table_change.specs.Repaging.{lateRowWith, OnPagesPre}
+use Rattle.table_change.proofs.FoundEntries.{not-held, held-is, found-pre, news-made}
+use Rattle.table_change.proofs.RowChoice.{on-held, on-late, splice-pre}
+
+module _ {index keys used : List ℕ} {key r : ℕ} (h : FreeRecord index keys used key r) (leaf : Leaf) (at : FoundLeaf index keys used key leaf) where
+  -- A live entry's record is one of the register.
+  pub leaf-inside : leaf .pointer ≢ 65535 → leaf .pointer < length keys
+  leaf-inside = live-inside (h .sound) key (h .narrow) leaf at
+
+  module _ {t : Bool} (is : t ≡ keyIs keys (leaf .pointer) key) where
+    -- Row 5.
+    pub row-five : t ≡ true → onRowOf index keys used key r ≡ 5
+    row-five e = on-held h (held-is (h .sound) key (h .narrow) leaf at ∙ sym is ∙ e)
+
+    module _ (e : t ≡ false) {w : ℕ} (width : w ≡ widthOf index) where
+      absent : isHeld key (herdOf keys used) ≡ false
+      absent = held-is (h .sound) key (h .narrow) leaf at ∙ sym is ∙ e
+
+      -- What 5.1 asks.
+      pub entries-pre : FoundPre keys w key r leaf
+      entries-pre =
+          subst (λ (n : ℕ). FoundPre keys n key r leaf) (sym width)
+          (found-pre (h .sound) key (h .narrow) leaf at r (omega (arith, h .inside, h .sound .limits .records-high)) (sym is ∙ e))
+
+      module _ {news : Row} (n : NewEntries keys w key r leaf news) where
+        -- The key with its entries.
+        pub new-key : NewKey index keys used key r news
+        new-key =
+            let none-held = not-held (lookup key (herdOf keys used)) absent in
+            record {
+              free-record = h;
+              absent = none-held;
+              news-for = news-made (h .sound) key (h .narrow) leaf at r news none-held (subst (λ (m : ℕ). NewEntries keys m key r leaf news) width n);
+            }
+
+        pub late-pre : OnPagesPre index key news
+        late-pre = splice-pre h news (new-key .news-for)
+
+        -- Rows 8 and 7.
+        pub late-row-is : {late : ℕ} → late ≡ lateRowWith index key news → onRowOf index keys used key r ≡ late
+        late-row-is q = on-late h absent news (new-key .news-for) ∙ sym q
