@@ -26,8 +26,8 @@ use Rattle.index_table.proofs.SoundTables.{herd-narrow, herd-sorted, tree-sound
 use Rattle.table_calls.specs.declared.answer.Answer.{Answer}
 use Rattle.table_calls.specs.Answers.{plain, withRecord, found}
 use Rattle.table_calls.specs.Ranges.{recordsBetween, listed}
-use Rattle.table_change.specs.Changes.{isSome, isHeld, onRow, offRow}
-use Rattle.tag_index.specs.Reading.{tooWide, firstRow, behind}
+use Rattle.table_change.specs.Changes.{tooWide, isSome, isHeld, onRow, offRow}
+use Rattle.tag_index.specs.Reading.{firstRow, behind}
 use Rattle.tag_index.specs.Histories.{Tables, Call, format, on, off, find, list, check, Reply, answered, sliced, said, OrderedMap, Sizes, sizesOf, Feed, formats, keyWith, mapReply, mapAfter, mapReplies, nothingFed}
 use Rattle.tag_index.specs.Claims.{entriesOfPage}
 use Rattle.tag_index.proofs.MapSteps.{Holds, finds-step, lists-step}

@@ -10,7 +10,8 @@ use Rattle.index_table.specs.Header.{widthOf}
 use Rattle.index_table.specs.Soundness.{Sound}
 use Rattle.table_calls.specs.declared.answer.Answer.{Answer}
 use Rattle.table_calls.specs.Answers.{plain}
-use Rattle.tag_index.specs.Reading.{Judged, tooWide, FirstRow, behind, keptBehind}
+use Rattle.table_change.specs.Changes.{tooWide}
+use Rattle.tag_index.specs.Reading.{Judged, FirstRow, behind, keptBehind}
 
 -- A test of the width read is one of the header's width.
 pub wide-is : {w v : ℕ} (key : ℕ) {t : Bool} → w ≡ v → t ≡ leb (2 ^ w) key → tooWide v key ≡ t

@@ -1,3 +1,4 @@
+pub mod Changes
 pub mod EmptySound
 pub mod EmptyTables
 pub mod FormatLimits

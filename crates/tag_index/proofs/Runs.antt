@@ -13,6 +13,8 @@ use Rattle.tag_index.specs.Changing.{OnDoes, OffDoes}
 use Rattle.tag_index.specs.Reading.{FindDoes, ListDoes}
 use Rattle.tag_index.specs.Histories.{Tables, Call, format, on, off, find, list, check, Reply, answered, sliced, said, OrderedMap, sizesOf, Feed, feedOf, formats as fits, emptyMap, mapBehind}
 use Rattle.tag_index.proofs.format.format.Reads as format-reads
+use Rattle.tag_index.proofs.change.on.Reads as on-reads
+use Rattle.tag_index.proofs.change.off.Reads as off-reads
 use Rattle.tag_index.proofs.read.find.Reads as find-reads
 use Rattle.tag_index.proofs.read.list.Reads as list-reads
 use Rattle.tag_index.proofs.read.check.Reads as check-reads
@@ -34,10 +36,16 @@ pub record Formats (w e p : ℕ) (t u : Tables) (r : Answer) : Type 0 where
   pub post : format-reads.Post κs (before .index, (before .keys, (before .used, (w, (e, (p, tt)))))) r (after .index, (after .keys, (after .used, (w, (e, (p, tt))))))
 
 pub record Ons (key r : ℕ) (t u : Tables) (a : Answer) : Type 0 where
-  pub does : OnDoes (t .index) (t .keys) (t .used) key r (u .index) (u .keys) (u .used) a
+  pub κs : Lfts 3
+  pub before : Lent t
+  pub after : Lent u
+  pub post : on-reads.Post κs (before .index, (before .keys, (before .used, (key, (r, tt))))) a (after .index, (after .keys, (after .used, (key, (r, tt)))))
 
 pub record Offs (key : ℕ) (t u : Tables) (a : Answer) : Type 0 where
-  pub does : OffDoes (t .index) (t .keys) (t .used) key (u .index) (u .keys) (u .used) a
+  pub κs : Lfts 3
+  pub before : Lent t
+  pub after : Lent u
+  pub post : off-reads.Post κs (before .index, (before .keys, (before .used, (key, tt)))) a (after .index, (after .keys, (after .used, (key, tt))))
 
 pub record Finds (key : ℕ) (t : Tables) (r : Answer) : Type 0 where
   pub κs : Lfts 3
@@ -97,10 +105,12 @@ module _ {t : Tables} where
       rw (sym (s .before .index-is), sym (s .before .keys-is), sym (s .before .used-is), sym (s .after .index-is), sym (s .after .keys-is), sym (s .after .used-is)) (s .post)
 
   pub ons-does : {key r : ℕ} {u : Tables} {a : Answer} → Ons key r t u a → OnDoes (t .index) (t .keys) (t .used) key r (u .index) (u .keys) (u .used) a
-  ons-does s = s .does
+  ons-does s =
+      rw (sym (s .before .index-is), sym (s .before .keys-is), sym (s .before .used-is), sym (s .after .index-is), sym (s .after .keys-is), sym (s .after .used-is)) (s .post)
 
   pub offs-does : {key : ℕ} {u : Tables} {a : Answer} → Offs key t u a → OffDoes (t .index) (t .keys) (t .used) key (u .index) (u .keys) (u .used) a
-  offs-does s = s .does
+  offs-does s =
+      rw (sym (s .before .index-is), sym (s .before .keys-is), sym (s .before .used-is), sym (s .after .index-is), sym (s .after .keys-is), sym (s .after .used-is)) (s .post)
 
   pub finds-does : {key : ℕ} {r : Answer} → Finds key t r → FindDoes (t .index) (t .keys) (t .used) key r
   finds-does s = rw (sym (s .lent .index-is), sym (s .lent .keys-is), sym (s .lent .used-is)) (s .post)

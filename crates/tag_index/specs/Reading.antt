@@ -3,8 +3,8 @@ use mathlib.Core.Path.{_≡_}
 use mathlib.Core.Logic.{_↔_}
 use mathlib.Core.Bool.{Bool, true, cond, _||_}
 use mathlib.Core.List.{List}
-use Prim.Native.Nat.{ℕ, _^_}
-use lib.Dec.{leb, eqb}
+use Prim.Native.Nat.{ℕ}
+use lib.Dec.{eqb}
 use lib.ListN.{length}
 use Rattle.leaf_list.specs.Herd.{lookup}
 use Rattle.leaf_list.specs.Register.{herdOf}
@@ -13,15 +13,12 @@ use Rattle.index_table.specs.Soundness.{Sound}
 use Rattle.table_calls.specs.declared.answer.Answer.{Answer}
 use Rattle.table_calls.specs.Answers.{plain, found}
 use Rattle.table_calls.specs.Ranges.{recordsBetween, listed, listSlice}
+use Rattle.table_change.specs.Changes.{tooWide}
 
 -- Row 1: "tables not sound": sound says whether they are.
 pub record Judged (index keys used : List ℕ) : Type 0 where
   pub sound : Bool
   pub decides : (sound ≡ true) ↔ Sound index keys used
-
--- Row 2: "key of more than W bits".
-abbrev pub tooWide : ℕ → ℕ → Bool
-tooWide w key = leb (2 ^ w) key
 
 -- Rows 1 and 2, the first that applies to the tables and to two keys; 0 if neither does.
 abbrev pub firstRow : Bool → ℕ → ℕ → ℕ → ℕ

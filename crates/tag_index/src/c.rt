@@ -3,6 +3,7 @@ ghost use mathlib.Core.Path.{_≡_};
 ghost use mathlib.Core.Bool.{true};
 ghost use mathlib.Core.Logic.{_↔_};
 ghost use Rattle.index_table.specs.Soundness.{Sound};
+ghost use Rattle.tag_index.specs.Changing.{OnDoes, OffDoes};
 ghost use Rattle.tag_index.specs.Format.{FormatDoes};
 ghost use Rattle.tag_index.specs.Reading.{FindDoes, ListDoes};
 use table_calls::answer::Answer;
@@ -19,6 +20,31 @@ pub extern "C" fn tag_index_format(
     ensures { λ r. ⌜ FormatDoes w e p (now (index .entry)) (now (keys .entry)) (now (used .entry)) (now (index .exit)) (now (keys .exit)) (now (used .exit)) r ⌝ }
 {
     crate::format::format(index, keys, used, w, e, p)
+}
+
+#[no_mangle]
+pub extern "C" fn tag_index_on(
+    index: &mut [u8],
+    keys: &mut [u64],
+    used: &mut [u8],
+    key: u64,
+    record: u32,
+) -> Answer
+    ensures { λ r. ⌜ OnDoes (now (index .entry)) (now (keys .entry)) (now (used .entry)) key «record» (now (index .exit)) (now (keys .exit)) (now (used .exit)) r ⌝ }
+{
+    crate::change::on(index, keys, used, key, record)
+}
+
+#[no_mangle]
+pub extern "C" fn tag_index_off(
+    index: &mut [u8],
+    keys: &mut [u64],
+    used: &mut [u8],
+    key: u64,
+) -> Answer
+    ensures { λ r. ⌜ OffDoes (now (index .entry)) (now (keys .entry)) (now (used .entry)) key (now (index .exit)) (now (keys .exit)) (now (used .exit)) r ⌝ }
+{
+    crate::change::off(index, keys, used, key)
 }
 
 #[no_mangle]
