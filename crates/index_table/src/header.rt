@@ -2,6 +2,7 @@
 ghost use mathlib.Core.Path.{_≡_};
 ghost use Prim.Native.Nat.{_+_, _*_, _≤_};
 ghost use lib.ListN.{length};
+ghost use Rattle.index_table.specs.Header.{widthOf};
 ghost use Rattle.index_table.specs.IndexNumbers.{IndexOf};
 use crate::layout::PageNo;
 
@@ -30,6 +31,14 @@ fn word(high: u8, low: u8) -> u16
     ensures { λ r. ⌜ r ≡ high * 256 + low ⌝ }
 {
     (high as u16) * 256 + (low as u16)
+}
+
+// The width of the keys.
+pub fn width(index: &[u8]) -> u64
+    requires { ⌜ 16 ≤ length (now index) ⌝ }
+    ensures { λ r. ⌜ (r ≡ widthOf (now (index .entry))) × (r ≤ 255) ⌝ }
+{
+    index[0] as u64
 }
 
 // The header's numbers.

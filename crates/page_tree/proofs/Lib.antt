@@ -28,3 +28,4 @@ pub mod RowLaws
 pub mod Choice
 pub mod PartEnds
 pub mod RowCuts
+pub mod NumberedLaws

@@ -1,1 +1,3 @@
 // On and off in sound tables.
+pub mod entries;
+pub mod rows;

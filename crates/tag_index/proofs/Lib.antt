@@ -4,3 +4,8 @@ pub mod FormatLimits
 pub mod Histories
 pub mod Judging
 pub mod Runs
+pub mod ReachedPages
+pub mod RecordKeys
+pub mod MapSteps
+pub mod Corollaries
+pub mod MapExamples

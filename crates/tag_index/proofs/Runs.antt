@@ -9,8 +9,9 @@ use denote.Ref.{RefT}
 use Rattle.index_table.specs.Soundness.{Sound}
 use Rattle.table_calls.specs.declared.answer.Answer.{Answer}
 use Rattle.tag_index.specs.Format.{FormatDoes}
+use Rattle.tag_index.specs.Changing.{OnDoes, OffDoes}
 use Rattle.tag_index.specs.Reading.{FindDoes, ListDoes}
-use Rattle.tag_index.specs.Histories.{Tables, Call, format, find, list, check, Reply, answered, sliced, said}
+use Rattle.tag_index.specs.Histories.{Tables, Call, format, on, off, find, list, check, Reply, answered, sliced, said, OrderedMap, sizesOf, Feed, feedOf, formats as fits, emptyMap, mapBehind}
 use Rattle.tag_index.proofs.format.format.Reads as format-reads
 use Rattle.tag_index.proofs.read.find.Reads as find-reads
 use Rattle.tag_index.proofs.read.list.Reads as list-reads
@@ -32,6 +33,12 @@ pub record Formats (w e p : ℕ) (t u : Tables) (r : Answer) : Type 0 where
   pub after : Lent u
   pub post : format-reads.Post κs (before .index, (before .keys, (before .used, (w, (e, (p, tt)))))) r (after .index, (after .keys, (after .used, (w, (e, (p, tt))))))
 
+pub record Ons (key r : ℕ) (t u : Tables) (a : Answer) : Type 0 where
+  pub does : OnDoes (t .index) (t .keys) (t .used) key r (u .index) (u .keys) (u .used) a
+
+pub record Offs (key : ℕ) (t u : Tables) (a : Answer) : Type 0 where
+  pub does : OffDoes (t .index) (t .keys) (t .used) key (u .index) (u .keys) (u .used) a
+
 pub record Finds (key : ℕ) (t : Tables) (r : Answer) : Type 0 where
   pub κs : Lfts 3
   pub lent : Lent t
@@ -51,19 +58,49 @@ pub record Checks (t : Tables) (r : Bool) : Type 0 where
   pub lent : Lent t
   pub post : check-reads.Post κs (lent .index, (lent .keys, (lent .used, tt))) r (lent .index, (lent .keys, (lent .used, tt)))
 
--- A run of calls from tables to tables, each call on the tables as the last one left them.
-pub data Run : Tables → List Call → List Reply → Tables → Type 0 where
-  end : {t : Tables} → Run t [] [] t
-  formats : {w e p : ℕ} {t u v : Tables} {r : Answer} {cs : List Call} {rs : List Reply} → Formats w e p t u r → Run u cs rs v → Run t (format w e p ∷ cs) (answered r ∷ rs) v
-  finds : {key : ℕ} {t v : Tables} {r : Answer} {cs : List Call} {rs : List Reply} → Finds key t r → Run t cs rs v → Run t (find key ∷ cs) (answered r ∷ rs) v
-  lists : {a b : ℕ} {out out₁ : List ℕ} {t v : Tables} {r : Answer} {cs : List Call} {rs : List Reply} → Lists a b out out₁ t r → Run t cs rs v → Run t (list a b out ∷ cs) (sliced r out₁ ∷ rs) v
-  checks : {t v : Tables} {r : Bool} {cs : List Call} {rs : List Reply} → Checks t r → Run t cs rs v → Run t (check ∷ cs) (said r ∷ rs) v
+-- A run of calls from tables to tables, each call on the tables as the last one left them; with what the map is fed of each, and what each gives back.
+pub data Run : Tables → List Call → List Feed → List Reply → Tables → Type 0 where
+  end : {t : Tables} → Run t [] [] [] t
+  formats : {w e p : ℕ} {t u v : Tables} {a : Answer} {cs : List Call} {fs : List Feed} {rs : List Reply} → Formats w e p t u a → Run u cs fs rs v
+      → Run t (format w e p ∷ cs) (feedOf t (format w e p) ∷ fs) (answered a ∷ rs) v
+  ons : {key r : ℕ} {t u v : Tables} {a : Answer} {cs : List Call} {fs : List Feed} {rs : List Reply} → Ons key r t u a → Run u cs fs rs v
+      → Run t (on key r ∷ cs) (feedOf t (on key r) ∷ fs) (answered a ∷ rs) v
+  offs : {key : ℕ} {t u v : Tables} {a : Answer} {cs : List Call} {fs : List Feed} {rs : List Reply} → Offs key t u a → Run u cs fs rs v
+      → Run t (off key ∷ cs) (feedOf t (off key) ∷ fs) (answered a ∷ rs) v
+  finds : {key : ℕ} {t v : Tables} {a : Answer} {cs : List Call} {fs : List Feed} {rs : List Reply} → Finds key t a → Run t cs fs rs v
+      → Run t (find key ∷ cs) (feedOf t (find key) ∷ fs) (answered a ∷ rs) v
+  lists : {a b : ℕ} {out out₁ : List ℕ} {t v : Tables} {r : Answer} {cs : List Call} {fs : List Feed} {rs : List Reply} → Lists a b out out₁ t r → Run t cs fs rs v
+      → Run t (list a b out ∷ cs) (feedOf t (list a b out) ∷ fs) (sliced r out₁ ∷ rs) v
+  checks : {t v : Tables} {r : Bool} {cs : List Call} {fs : List Feed} {rs : List Reply} → Checks t r → Run t cs fs rs v
+      → Run t (check ∷ cs) (feedOf t check ∷ fs) (said r ∷ rs) v
+
+-- A history: "It starts from what a done format leaves, whatever the tables held before."
+pub record History (calls : List Call) (feeds : List Feed) (replies : List Reply) (left : Tables) : Type 0 where
+  pub width : ℕ
+  pub entries : ℕ
+  pub pages : ℕ
+  pub given : Tables
+  pub made : Tables
+  pub answer : Answer
+  pub begun : Formats width entries pages given made answer
+  pub done : fits (sizesOf given) width entries pages ≡ true
+  pub run : Run made calls feeds replies left
+
+-- The map behind a history.
+abbrev pub mapOf : {calls : List Call} {feeds : List Feed} {replies : List Reply} {left : Tables} → History calls feeds replies left → OrderedMap
+mapOf {calls} {feeds} h = mapBehind (sizesOf (h .given)) (emptyMap (h .width)) calls feeds
 
 -- The contracts in words of the tables.
 module _ {t : Tables} where
   pub formats-does : {w e p : ℕ} {u : Tables} {r : Answer} → Formats w e p t u r → FormatDoes w e p (t .index) (t .keys) (t .used) (u .index) (u .keys) (u .used) r
   formats-does s =
       rw (sym (s .before .index-is), sym (s .before .keys-is), sym (s .before .used-is), sym (s .after .index-is), sym (s .after .keys-is), sym (s .after .used-is)) (s .post)
+
+  pub ons-does : {key r : ℕ} {u : Tables} {a : Answer} → Ons key r t u a → OnDoes (t .index) (t .keys) (t .used) key r (u .index) (u .keys) (u .used) a
+  ons-does s = s .does
+
+  pub offs-does : {key : ℕ} {u : Tables} {a : Answer} → Offs key t u a → OffDoes (t .index) (t .keys) (t .used) key (u .index) (u .keys) (u .used) a
+  offs-does s = s .does
 
   pub finds-does : {key : ℕ} {r : Answer} → Finds key t r → FindDoes (t .index) (t .keys) (t .used) key r
   finds-does s = rw (sym (s .lent .index-is), sym (s .lent .keys-is), sym (s .lent .used-is)) (s .post)

@@ -1,15 +1,19 @@
 -- Histories (01, "Histories"): the calls on one index table and one register, and the ordered map that they are held to. Assumes nothing.
-use mathlib.Core.Bool.{Bool, true, cond}
+use mathlib.Core.Bool.{Bool, true, false, cond}
+use mathlib.Core.Option.{Option, none, some}
 use mathlib.Core.List.{List, [], _∷_}
 use Prim.Native.Nat.{ℕ}
+use lib.Dec.{leb, eqb}
 use lib.ListN.{length}
-use Rattle.leaf_list.specs.Herd.{Herd, lookup}
+use Rattle.leaf_list.specs.Herd.{Herd, lookup, add, remove}
 use Rattle.table_calls.specs.declared.answer.Answer.{Answer}
 use Rattle.table_calls.specs.Answers.{plain, found}
 use Rattle.table_calls.specs.Ranges.{recordsBetween, listed, listSlice}
+use Rattle.table_change.specs.Changes.{isSome, isHeld, rowEight, rowSeven, onRow, offRow}
 use Rattle.tag_index.specs.Format.{formatFits}
-use Rattle.tag_index.specs.Reading.{firstRow, behind, keptBehind}
+use Rattle.tag_index.specs.Reading.{tooWide, firstRow, behind, keptBehind}
 
+-- One index table and one register.
 pub record Tables : Type 0 where
   pub index : List ℕ
   pub keys : List ℕ
@@ -18,6 +22,8 @@ pub record Tables : Type 0 where
 -- A call and its arguments. "Each list call is lent a slice of its own, of any length and content."
 pub data Call : Type 0 where
   format : ℕ → ℕ → ℕ → Call
+  on : ℕ → ℕ → Call
+  off : ℕ → Call
   find : ℕ → Call
   list : ℕ → ℕ → List ℕ → Call
   check : Call
@@ -39,33 +45,88 @@ pub record Sizes : Type 0 where
   pub keys : ℕ
   pub used : ℕ
 
+-- The lengths of tables.
 abbrev pub sizesOf : Tables → Sizes
 sizesOf t = record { table = length (t .index); keys = length (t .keys); used = length (t .used) }
 
+-- "and, of an on that rows 2 to 5 let pass, whether row 8 and whether row 7 applies to the tables it gets. It sees no answer and no page."
+-- (Rows 2 to 5 come first in onRow: of an on that they decline, nothing here is looked at.)
+pub record Feed : Type 0 where
+  pub eight : Bool
+  pub seven : Bool
+
+-- Of any other call, nothing.
+abbrev pub nothingFed : Feed
+nothingFed = record { eight = false; seven = false }
+
+-- What the map is fed of a call on the tables that it gets.
+abbrev pub feedOf : Tables → Call → Feed
+feedOf t (format w e p) = nothingFed
+feedOf t (on key r) = record { eight = rowEight (t .index) (t .keys) key r; seven = rowSeven (t .index) (t .keys) key r }
+feedOf t (off key) = nothingFed
+feedOf t (find key) = nothingFed
+feedOf t (list a b out) = nothingFed
+feedOf t check = nothingFed
+
+-- ---- the rows that decline a call, by the map
+
+-- "9 by its row": whether it lets a format pass.
 abbrev pub formats : Sizes → ℕ → ℕ → ℕ → Bool
 formats z w e p = formatFits w e p (z .table) (z .keys) (z .used)
 
+-- The key that has a record: "a record is in use if a held key has it".
+abbrev pub keyWith : ℕ → Herd → Option ℕ
+keyWith r [] = none
+keyWith r (x ∷ s) = cond (eqb r (x .1)) (some (x .0)) (keyWith r s)
+
+-- "2, 3, 4 or 5, the first whose row applies"; "Else 8 if row 8 applies, else 7 if row 7 does."
+abbrev pub mapOnRow : Sizes → Feed → OrderedMap → ℕ → ℕ → ℕ
+mapOnRow z f m key r = onRow (tooWide (m .width) key) (leb (z .used) r) (isSome (keyWith r (m .herd))) (isHeld key (m .herd)) (f .eight) (f .seven)
+
+-- "2; else 6 if the key is not held"
+abbrev pub mapOffRow : OrderedMap → ℕ → ℕ
+mapOffRow m key = offRow (tooWide (m .width) key) (isHeld key (m .herd))
+
+-- ---- one call
+
 -- What the map answers to a call. "1 is never answered"
-abbrev pub mapReply : Sizes → OrderedMap → Call → Reply
-mapReply z m (format w e p) = answered (plain (cond (formats z w e p) 0 9))
-mapReply z m (find key) = answered (behind (firstRow true (m .width) key key) (found (lookup key (m .herd))))
-mapReply z m (list a b out) = sliced
+abbrev pub mapReply : Sizes → Feed → OrderedMap → Call → Reply
+mapReply z f m (format w e p) = answered (plain (cond (formats z w e p) 0 9))
+mapReply z f m (on key r) = answered (plain (mapOnRow z f m key r))
+mapReply z f m (off key) = answered (plain (mapOffRow m key))
+mapReply z f m (find key) = answered (behind (firstRow true (m .width) key key) (found (lookup key (m .herd))))
+mapReply z f m (list a b out) = sliced
     (behind (firstRow true (m .width) a b) (listed (recordsBetween a b (m .herd)) (length out)))
     (keptBehind (firstRow true (m .width) a b) out (listSlice (recordsBetween a b (m .herd)) out))
-mapReply z m check = said true
+mapReply z f m check = said true
 
--- The map behind a call. "A refused step changes nothing"
-abbrev pub mapAfter : Sizes → OrderedMap → Call → OrderedMap
-mapAfter z m (format w e p) = cond (formats z w e p) (record { width = w; herd = [] }) m
-mapAfter z m (find key) = m
-mapAfter z m (list a b out) = m
-mapAfter z m check = m
+-- The map of keys of w bits: "at first none is held".
+abbrev pub emptyMap : ℕ → OrderedMap
+emptyMap w = record { width = w; herd = [] }
 
--- The same for all calls of a history, one after the other.
-abbrev pub mapReplies : Sizes → OrderedMap → List Call → List Reply
-mapReplies z m [] = []
-mapReplies z m (c ∷ cs) = mapReply z m c ∷ mapReplies z (mapAfter z m c) cs
+-- The map with another herd, where no row applies. "A refused step changes nothing"
+abbrev pub changed : ℕ → Herd → OrderedMap → OrderedMap
+changed row herd m = cond (eqb row 0) (record { width = m .width; herd = herd }) m
 
-abbrev pub mapBehind : Sizes → OrderedMap → List Call → OrderedMap
-mapBehind z m [] = m
-mapBehind z m (c ∷ cs) = mapBehind z (mapAfter z m c) cs
+-- The map behind a call.
+abbrev pub mapAfter : Sizes → Feed → OrderedMap → Call → OrderedMap
+mapAfter z f m (format w e p) = cond (formats z w e p) (emptyMap w) m
+mapAfter z f m (on key r) = changed (mapOnRow z f m key r) (add key r (m .herd)) m
+mapAfter z f m (off key) = changed (mapOffRow m key) (remove key (m .herd)) m
+mapAfter z f m (find key) = m
+mapAfter z f m (list a b out) = m
+mapAfter z f m check = m
+
+-- ---- all calls of a history, one after the other, with what the map is fed of each
+
+-- What the map answers to each.
+abbrev pub mapReplies : Sizes → OrderedMap → List Call → List Feed → List Reply
+mapReplies z m [] fs = []
+mapReplies z m (c ∷ cs) [] = []
+mapReplies z m (c ∷ cs) (f ∷ fs) = mapReply z f m c ∷ mapReplies z (mapAfter z f m c) cs fs
+
+-- The map behind all of them.
+abbrev pub mapBehind : Sizes → OrderedMap → List Call → List Feed → OrderedMap
+mapBehind z m [] fs = m
+mapBehind z m (c ∷ cs) [] = m
+mapBehind z m (c ∷ cs) (f ∷ fs) = mapBehind z (mapAfter z f m c) cs fs

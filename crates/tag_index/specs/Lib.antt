@@ -2,3 +2,4 @@ pub mod Format
 pub mod Changing
 pub mod Histories
 pub mod Reading
+pub mod Claims

@@ -9,14 +9,6 @@ ghost use Rattle.index_table.specs.Soundness.{Sound};
 ghost use Rattle.tag_index.specs.Reading.{FirstRow, FindDoes, ListDoes};
 use table_calls::answer::Answer;
 
-// The width of the keys.
-fn width(index: &[u8]) -> u64
-    requires { ⌜ 16 ≤ length (now index) ⌝ }
-    ensures { λ r. ⌜ (r ≡ widthOf (now (index .entry))) × (r ≤ 255) ⌝ }
-{
-    index[0] as u64
-}
-
 // Row 1 or 2, the first that applies to the tables and to two keys; 0 if neither does.
 pub fn first_row(index: &[u8], keys: &[u64], used: &[u8], a: u64, b: u64) -> u32
     ensures { λ r. ⌜ FirstRow (now (index .entry)) (now (keys .entry)) (now (used .entry)) a b r ⌝ }
@@ -24,7 +16,7 @@ pub fn first_row(index: &[u8], keys: &[u64], used: &[u8], a: u64, b: u64) -> u32
     if !table_check::check(index, keys, used) {
         return 1;
     }
-    let w = width(index);
+    let w = index_table::header::width(index);
     if leaf_list::too_wide(w, a) {
         return 2;
     }

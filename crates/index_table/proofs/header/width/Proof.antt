@@ -2,8 +2,8 @@
 use borrow.Author.Needs.{needs}
 use mathlib.Core.Path.{refl}
 use native.Mathlib.Omega.{arith}
-use Rattle.tag_index.proofs.read.width.Statement.{statement}
-use Rattle.tag_index.proofs.read.width.Tie as tie
+use Rattle.index_table.proofs.header.width.Statement.{statement}
+use Rattle.index_table.proofs.header.width.Tie as tie
 
 shared-slice-read-result : tie.Need-shared-slice-read-result
 shared-slice-read-result c = search needs

@@ -1,0 +1,13 @@
+pub mod EntryTurns
+pub mod Following
+pub mod Frames
+pub mod Lowering
+pub mod RemovalSteps
+pub mod Removals
+pub mod RootLeft
+pub mod RowChanges
+pub mod Settling
+pub mod SoundLinks
+pub mod SweepTurns
+pub mod Sweeps
+pub mod TakingOut

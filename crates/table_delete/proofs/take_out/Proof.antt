@@ -1,0 +1,43 @@
+-- From the root's entry, with the key's first position and no depth before or after. Assumes nothing.
+use Rattle.table_delete.proofs.TakingOut.{take-level, take-remove, take-fits, take-lower, take-post}
+use native.Mathlib.Omega.{arith}
+use borrow.Author.Needs.{needs}
+use Rattle.table_delete.proofs.take_out.Statement.{statement}
+use Rattle.table_delete.proofs.take_out.Tie as tie
+
+next-position-requires : tie.Need-next-position-requires
+next-position-requires c κs = (c .before .pre .tree .width, omega arith, c .before .pre .narrow)
+
+pointer-to-requires : tie.Need-pointer-to-requires
+pointer-to-requires c κs = search needs
+
+add-remove : tie.Need-add-remove
+add-remove c = omega (arith, take-level (c .before .before .before .before .pre))
+
+remove-requires : tie.Need-remove-requires
+remove-requires c κs = take-remove (c .before .before .before .before .pre) (λ i. omega (arith, c .before .before .before .slice-known .given i)) _ _ (c .before .before .next-position .ensures) (c .before .pointer-to .ensures)
+
+page-of-requires : tie.Need-page-of-requires
+page-of-requires c κs = take-fits (c .before .before .before .before .before .before .before .pre) (c .before .before .before .before .before .next-position .ensures) (c .before .before .before .before .pointer-to .ensures) (c .before .before .remove .ensures)
+
+lower-requires : tie.Need-lower-requires
+lower-requires c κs = take-lower (c .before .before .before .before .before .before .before .before .before .pre) (c .before .before .before .before .before .before .before .next-position .ensures) (c .before .before .before .before .before .before .pointer-to .ensures) (c .before .before .before .before .remove .ensures) _ (c .before .page-of .ensures)
+
+same-length : tie.Need-same-length
+same-length c = search needs
+
+returns : tie.Need-returns
+returns c = take-post (c .before .before .before .before .before .before .before .before .before .before .before .before .pre) (c .before .before .before .before .before .before .before .before .before .before .next-position .ensures) (c .before .before .before .before .before .before .before .before .before .pointer-to .ensures) (c .before .before .before .before .before .before .before .remove .ensures) _ (c .before .before .before .before .page-of .ensures) _ _ (c .before .before .lower .ensures)
+
+pub take-out-spec : {M : Type 1} → statement M
+take-out-spec =
+    tie.close
+    (tie.spec
+    next-position-requires
+    pointer-to-requires
+    add-remove
+    remove-requires
+    page-of-requires
+    lower-requires
+    same-length
+    returns)

@@ -1,0 +1,6 @@
+pub mod Keeping
+pub mod Entries
+pub mod Rows
+pub mod Unwinding
+pub mod Removing
+pub mod Taking

@@ -1,0 +1,52 @@
+-- Removal from a whole tree, and the root rule. Assumes nothing.
+use mathlib.Core.Path.{_≡_}
+use mathlib.Core.List.{List}
+use Prim.Native.Nat.{ℕ, suc, _+_, _^_, _≤_, _<_}
+use lib.ListN.{length, take}
+use Rattle.leaf_list.specs.Keys.{bits}
+use Rattle.leaf_list.specs.Search.{positions}
+use Rattle.leaf_list.proofs.Depths.{Neighbours}
+use Rattle.page_tree.specs.Rows.{All}
+use Rattle.page_tree.specs.Tree.{leavesOf}
+use Rattle.page_tree.specs.Numbered.{lowerNumbered, deleteNumbered, rootedNumbered}
+use Rattle.index_table.specs.Layout.{layoutOf, pageBytes}
+use Rattle.index_table.specs.Pages.{pagesAt, met, inUse, numberedAt, rootRef, treeAt, numberedTreeAt}
+use Rattle.index_table.specs.Soundness.{SizedPage, SoundPages, Cleared}
+use Rattle.index_table.specs.Standing.{TreeTable, Owned}
+use Rattle.index_table.specs.declared.layout.Root.{Root}
+use Rattle.table_delete.specs.Keeping.{numbersAt, Linked, Paged}
+
+-- A root page of level n, below which pages may be changed.
+pub record LowerPre (e P n : ℕ) (b : List ℕ) (p : ℕ) : Type 0 where
+  pub paged : Paged e P b
+  pub sized : SizedPage (layoutOf e) P n b p
+  pub linked : All (Linked (layoutOf e) P n b) (pagesAt (layoutOf e) b p)
+  pub own : Owned (layoutOf e) b (met (suc n) (pagesAt (layoutOf e) b) (rootRef p))
+
+-- "while the root is above level 0 with one entry, its child becomes root and the old root is freed"
+pub record LowerPost (e P n : ℕ) (b : List ℕ) (p : ℕ) (b′ : List ℕ) (r : Root) : Type 0 where
+  pub long : length b′ ≡ length b
+  pub front : take 16 b′ ≡ take 16 b
+  pub tree : numberedTreeAt 65535 (pagesAt (layoutOf e) b′) (r .level) (r .page .0) ≡ lowerNumbered n p (numbersAt n (pagesAt (layoutOf e) b) (pagesAt (layoutOf e) b p))
+  pub pages : (q : ℕ) → met (suc (r .level)) (pagesAt (layoutOf e) b′) (rootRef (r .page .0)) q + inUse (pagesAt (layoutOf e) b q)
+      ≡ met (suc n) (pagesAt (layoutOf e) b) (rootRef p) q + inUse (pagesAt (layoutOf e) b′ q)
+  pub same : (q : ℕ) → met (suc n) (pagesAt (layoutOf e) b) (rootRef p) q ≡ 0 → pageBytes (layoutOf e) b′ q ≡ pageBytes (layoutOf e) b q
+  pub cleared : (q : ℕ) → Cleared (layoutOf e) (pageBytes (layoutOf e) b q) → Cleared (layoutOf e) (pageBytes (layoutOf e) b′ q)
+  pub sized : SizedPage (layoutOf e) P (r .level) b′ (r .page .0)
+  pub linked : All (Linked (layoutOf e) P (r .level) b′) (pagesAt (layoutOf e) b′ (r .page .0))
+  pub low : r .level ≤ n
+
+-- A sound tree, a key of w bits, and on level 0 neighbours as in a leaf list.
+pub record TakePre (b : List ℕ) (e P level root w key : ℕ) : Type 0 where
+  pub tree : TreeTable b e P level root w
+  pub narrow : key < 2 ^ w
+  pub beside : Neighbours (leavesOf (treeAt 65535 (pagesAt (layoutOf e) b) level root))
+
+-- The tree without the entry that figure 6 finds, under the root that is left.
+pub record TakePost (b : List ℕ) (e P level root w key : ℕ) (b′ : List ℕ) (r : Root) : Type 0 where
+  pub long : length b′ ≡ length b
+  pub front : take 16 b′ ≡ take 16 b
+  pub pages : SoundPages (layoutOf e) P b′ (r .level) (r .page .0)
+  pub tree :
+      numberedTreeAt 65535 (pagesAt (layoutOf e) b′) (r .level) (r .page .0)
+      ≡ rootedNumbered level (deleteNumbered (suc level) 0 (positions 0 (bits w key)) 0 (numberedAt 65535 (suc level) (pagesAt (layoutOf e) b) (rootRef root)) .0)

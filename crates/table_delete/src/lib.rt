@@ -1,0 +1,60 @@
+// Deletion in the pages of a sound tree: figure 11 over the whole list, across pages.
+ghost use mathlib.Core.Path.{_≡_};
+ghost use Rattle.table_delete.specs.Taking.{LowerPre, LowerPost, TakePre, TakePost};
+
+pub mod entries;
+pub mod removal;
+pub mod rows;
+pub mod unwinding;
+
+use crate::removal::remove;
+use crate::rows::page_of;
+use crate::rows::pointer_to;
+use index_table::layout::PageNo;
+use index_table::layout::Root;
+use index_table::layout::child;
+use index_table::layout::count;
+use index_table::write::free_page;
+use table_search::next_position;
+
+// The root rule: a root above level 0 with one entry is freed, and its child is the root.
+fn lower(index: &mut [u8], e: u8, pages: u16, level: u8, page: PageNo) -> Root
+    requires { ⌜ LowerPre e pages level (now index) (page .0) ⌝ }
+    ensures { λ r. ⌜ LowerPost e pages level (now (index .entry)) (page .0) (now (index .exit)) r ⌝ }
+{
+    if level == 0 {
+        return Root {
+            page: page,
+            level: level,
+        };
+    }
+    if count(index, e, page) != 1 {
+        return Root {
+            page: page,
+            level: level,
+        };
+    }
+    let below = child(index, e, page, 0);
+    free_page(index, e, page);
+    lower(index, e, pages, level - 1, below)
+}
+
+// The entry that figure 6 finds for a key is taken out of the tree below a root: the root that is left.
+pub fn take_out(
+    index: &mut [u8],
+    e: u8,
+    pages: u16,
+    level: u8,
+    root: PageNo,
+    w: u64,
+    key: u64,
+) -> Root
+    requires { ⌜ TakePre (now index) e pages level (root .0) w key ⌝ }
+    ensures { λ r. ⌜ TakePost (now (index .entry)) e pages level (root .0) w key (now (index .exit)) r ⌝ }
+{
+    let position = next_position(w, key, 0);
+    let p = pointer_to(root);
+    let left = remove(index, e, pages, level + 1, 0, p, w, key, position, 0, 0);
+    let page = page_of(left.pointer);
+    lower(index, e, pages, level, page)
+}

@@ -1,0 +1,60 @@
+-- The ordered map on 01's small examples of the rows (W 8, 4 records). Assumes nothing.
+use mathlib.Core.Path.{_≡_, refl}
+use mathlib.Core.Bool.{true, false}
+use mathlib.Core.List.{List, [], _∷_}
+use Rattle.table_calls.specs.Answers.{plain, withRecord, withCount}
+use Rattle.tag_index.specs.Format.{formatFits}
+use Rattle.tag_index.specs.Histories.{Call, format, on, off, find, list, check, Reply, answered, sliced, said, Sizes, Feed, nothingFed, emptyMap, mapReplies, mapBehind}
+
+-- One page of two entries, four records.
+abbrev pub sizes : Sizes
+sizes = record { table = 24; keys = 4; used = 4 }
+
+-- Calls, what the map is fed of each, and what it answers.
+abbrev pub calls : List Call
+calls =
+    format 0 2 1 ∷ on 256 0 ∷ on 7 4 ∷ find 7 ∷ on 7 0 ∷ on 9 0 ∷ on 7 1 ∷ off 9 ∷ on 9 1 ∷ on 9 1 ∷ on 9 1 ∷ on 9 1 ∷ find 9 ∷ list 0 255 (5 ∷ 5 ∷ 5 ∷ []) ∷ list 0 255 (5 ∷ [])
+    ∷ list 9 7 (5 ∷ [])
+    ∷ list 0 256 (5 ∷ [])
+    ∷ off 7 ∷ find 7 ∷ find 256 ∷ check ∷ format 64 2 1 ∷ find 9 ∷ []
+
+abbrev pub feeds : List Feed
+feeds =
+    nothingFed ∷ both ∷ both ∷ nothingFed ∷ nothingFed ∷ both ∷ both ∷ nothingFed ∷ both ∷ eight ∷ seven ∷ nothingFed ∷ nothingFed ∷ nothingFed ∷ nothingFed
+    ∷ nothingFed
+    ∷ nothingFed
+    ∷ nothingFed ∷ nothingFed ∷ nothingFed ∷ nothingFed ∷ nothingFed ∷ nothingFed ∷ []
+  where
+    both : Feed
+    both = record { eight = true; seven = true }
+
+    eight : Feed
+    eight = record { eight = true; seven = false }
+
+    seven : Feed
+    seven = record { eight = false; seven = true }
+
+abbrev pub replies : List Reply
+replies =
+    answered (plain 9) ∷ answered (plain 2) ∷ answered (plain 3) ∷ answered (plain 6) ∷ answered (plain 0) ∷ answered (plain 4) ∷ answered (plain 5) ∷ answered (plain 6)
+    ∷ answered (plain 8)
+    ∷ answered (plain 8)
+    ∷ answered (plain 7)
+    ∷ answered (plain 0)
+    ∷ answered (withRecord 1)
+    ∷ sliced (withCount 2 false) (0 ∷ 1 ∷ 5 ∷ [])
+    ∷ sliced (withCount 1 true) (0 ∷ [])
+    ∷ sliced (withCount 0 false) (5 ∷ [])
+    ∷ sliced (plain 2) (5 ∷ [])
+    ∷ answered (plain 0)
+    ∷ answered (plain 6)
+    ∷ answered (plain 2)
+    ∷ said true
+    ∷ answered (plain 0)
+    ∷ answered (plain 6)
+    ∷ []
+
+-- Each row's example, in order; behind the last format no key is held.
+pub map-examples : (mapReplies sizes (emptyMap 8) calls feeds ≡ replies) × (mapBehind sizes (emptyMap 8) calls feeds ≡ emptyMap 64)
+unfolding formatFits
+map-examples = (refl, refl)
