@@ -60,6 +60,7 @@ still-free L b b₁ more ps h =
 abbrev pub withLevel : ℕ → List ℕ → (ℕ → List ℕ) → ℕ → List ℕ
 withLevel n here others k = cond (eqb k n) here (others k)
 
+-- They are free where both are.
 pub withLevel-free : (L : Layout) (b : List ℕ) (n : ℕ) (here : List ℕ) (others : ℕ → List ℕ) → All (λ q. pagesAt L b q ≡ []) here → ((k : ℕ) → All (λ q. pagesAt L b q ≡ []) (others k))
     → (k : ℕ) → All (λ q. pagesAt L b q ≡ []) (withLevel n here others k)
 withLevel-free L b n here others h g k = go (eqb k n)
@@ -133,6 +134,7 @@ module _ {b : List ℕ} {e P n page w key position τ : ℕ} (new : Replacement)
     page-kept : pageBytes L b₁ page ≡ pageBytes L b page
     page-kept = spliced .same page (omega (arith, old-is page, own-refs page, same-self page)) (omega (arith, h .more page, page-used))
 
+    -- So its row is read as before.
     pub refs-kept : pagesAt L b₁ page ≡ refs
     refs-kept = ap (refsOf L) page-kept
 

@@ -47,12 +47,15 @@ module _ {e : ℕ} {b : List ℕ} {page : ℕ} (pre : AlonePre e b page) (c n : 
   counted : n ≡ length (pagesAt (layoutOf e) b page)
   counted = wide ∙ count ∙ sym (length-refs (layoutOf e) (pageBytes (layoutOf e) b page))
 
+  -- There is a last entry.
   pub alone-some : 1 ≤ n
   alone-some = omega (arith, counted, pre .some)
 
+  -- It is inside the page.
   pub alone-inside : n - 1 < e
   alone-inside = omega (arith, counted, pre .some, pre .few)
 
+  -- Its depth and the page make the entry.
   pub alone-holds : (d p : ℕ) → d ≡ refAt (layoutOf e) (pageBytes (layoutOf e) b page) (n - 1) .0 → p ≡ page → {new r : Row} → Holds new 0 [] → Holds r (new .count + 1) (rowOf new ++ (d, p) ∷ [])
       → Holds r 1 (pageRef e b page ∷ [])
   alone-holds d p hd hp {new} {r} z g =
@@ -124,6 +127,7 @@ module _ {b : List ℕ} {e P page w key position τ : ℕ} {news : Row} {s : Spo
   pointed : below ≡ y .1
   pointed = is ∙ ap (λ (z : Ref). z .1) (read-entry (layoutOf e) b page (s .at) (stop .inside))
 
+  -- what is asked of it follows from what is asked of the page,
   pub child-insert : InsertPre b e P (level - 1) below w key (s .position) (s .trail) news
   child-insert = go level above pre (descend-down level above (pre .descend) s stop below is)
     where
@@ -180,14 +184,17 @@ single-same {e} {P} {new} (suc n) {bs} {τ} {b} {x} {b₁} {r} z one h c = only 
 module _ {b : List ℕ} {e P n page w key position τ : ℕ} {news : Row} {s : Spot} (pre : InsertPre b e P n page w key position τ news) (fits : Fitting 2 (pagesAt (layoutOf e) b page))
     (stop : Stopped w key position τ (pagesAt (layoutOf e) b page) s) {b₁ : List ℕ} {parts : Row}
     (h : Replaced e P (newLeaves news) n (leftFrom w key (s .position)) (s .trail) b (getD (pagesAt (layoutOf e) b page) (s .at) (0, 0)) b₁ parts) where
+  -- The row can be spliced.
   pub insert-splice : Spliceable e b₁ page (s .at) parts
   insert-splice = splice-pre (newLeaves news) (pre .entries-low) (pre .descend) (pre .own) fits (pre .enough) stop h
 
   -- One part above level 0: the page stays.
   module _ (above : n ≡ 0 → ⊥) (single : parts .count ≡ 1) where
+    -- Its last depth can be read.
     pub alone-pre : AlonePre e b₁ page
     alone-pre = record { within = insert-splice .within; some = omega (arith, insert-splice .inside); few = insert-splice .few }
 
+    -- It stands in its own place.
     pub alone-done : {r : Row} → Holds r 1 (pageRef e b₁ page ∷ []) → P < 65536 → Replaced e P (newLeaves news) (suc n) (leftFrom w key position) τ b (pageRef e b page) b₁ r
     alone-done {r} g low =
         subst (λ (d : ℕ). Replaced e P (newLeaves news) (suc n) (leftFrom w key position) τ b (d, page) b₁ r)
@@ -195,9 +202,11 @@ module _ {b : List ℕ} {e P n page w key position τ : ℕ} {news : Row} {s : S
         (replaced-kept (newLeaves news) (pre .entries-low) (pre .descend) (pre .own) fits (pre .enough) stop h (single-same n above (omega (arith, pre .entries-low)) h single) g low)
 
   module _ {row : Row} (g : Holds row (s .at + parts .count + (length (pagesAt (layoutOf e) b₁ page) - suc (s .at))) (splicedAt (s .at) (rowOf parts) (pagesAt (layoutOf e) b₁ page))) where
+    -- The row can be placed.
     pub insert-place : PlacePre e P b₁ page row
     insert-place = place-pre (newLeaves news) (pre .entries-low) (pre .descend) (pre .own) fits (pre .enough) stop h g
 
+    -- It stands in the place of the page.
     pub insert-done : {b₂ : List ℕ} {r : Row} → PlacePost e P n b₁ page row b₂ r → P < 65536 → length (rowOf r) ≡ r .count
         → Replaced e P (newLeaves news) (suc n) (leftFrom w key position) τ b (pageRef e b page) b₂ r
     insert-done {b₂} {r} post low full =
