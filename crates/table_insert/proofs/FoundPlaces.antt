@@ -57,6 +57,7 @@ module _ {w key position τ : ℕ} {row : List Ref} {s : Spot} (stop : Stopped w
   abbrev after : List Ref
   after = drop (suc (s .at)) row
 
+  -- The row parted there.
   pub found-parted : row ≡ before ++ y ∷ after
   found-parted = split-at row (s .at) (0, 0) (stop .inside)
 

@@ -7,16 +7,18 @@ use Prim.Native.Nat.{ℕ, suc, _+_, _-_, _≤_, _<_}
 use native.Mathlib.Omega.{arith}
 use lib.Dec.{eqb}
 use lib.ListN.{length, getD, take, drop, length-map}
+use lib.Seq.{append-snoc}
 use borrow.Author.Tests.{eq-eqb, ne-eqb}
 use Rattle.leaf_list.proofs.Lists.{all-append, all-weaker}
-use Rattle.page_tree.specs.Rows.{All, Closed}
+use Rattle.page_tree.specs.Rows.{All, Closed, lastDepth}
 use Rattle.page_tree.specs.Cutting.{parts}
 use Rattle.page_tree.specs.OnPages.{Replacement, replaceIn, insertBelow, pagesBelow}
 use Rattle.page_tree.specs.Numbered.{Numbered, numberedDepth, under, insertNumbered}
 use Rattle.page_tree.specs.Row.{depthOf, rowOf, Holds}
 use Rattle.page_tree.specs.declared.Row.{Row}
 use Rattle.page_tree.proofs.ListLaws.{all-left, all-right, sum-append}
-use Rattle.page_tree.proofs.ClosedRows.{closed-nonempty}
+use Rattle.page_tree.proofs.ClosedRows.{closed-nonempty, closed-last}
+use Rattle.page_tree.proofs.CuttingLaws.{cut-fits}
 use Rattle.page_tree.proofs.RowMaps.{parts-map}
 use Rattle.index_table.specs.Layout.{Layout, layoutOf, Ref, pageStart, pageBytes, refsOf, Fitting}
 use Rattle.index_table.specs.Pages.{pagesAt, nodeAt, numberedAt, same, met, metAll, inUse, usedPages}
@@ -30,8 +32,9 @@ use Rattle.index_table.proofs.NumberedPages.{numbered-aside}
 use Rattle.table_search.specs.declared.Spot.{Spot}
 use Rattle.table_search.specs.Places.{leftFrom, Stopped, DescendPre}
 use Rattle.table_search.proofs.Descents.{descend-walk}
-use Rattle.table_insert.specs.Placing.{owned, Placed, PlacePre, PlacePost}
+use Rattle.table_insert.specs.Placing.{Holding, owned, Placed, PlacePre, PlacePost}
 use Rattle.table_insert.specs.Inserting.{Replaced}
+use Rattle.table_insert.proofs.PlacedRows.{each-length}
 use Rattle.table_insert.proofs.PlacedTrees.{numbered-depths, placed-closed, placed-fits, placed-stands, placed-numbered}
 use Rattle.table_insert.proofs.NumberedInsertion.{length-under, insertNumbered-length, insertNumbered-ext}
 use Rattle.table_insert.proofs.FoundPlaces.{closed-splice, found-parted, found-before, found-replaced}
@@ -57,6 +60,7 @@ still-free L b b₁ more ps h =
 abbrev pub withLevel : ℕ → List ℕ → (ℕ → List ℕ) → ℕ → List ℕ
 withLevel n here others k = cond (eqb k n) here (others k)
 
+-- They are free where both are.
 pub withLevel-free : (L : Layout) (b : List ℕ) (n : ℕ) (here : List ℕ) (others : ℕ → List ℕ) → All (λ q. pagesAt L b q ≡ []) here → ((k : ℕ) → All (λ q. pagesAt L b q ≡ []) (others k))
     → (k : ℕ) → All (λ q. pagesAt L b q ≡ []) (withLevel n here others k)
 withLevel-free L b n here others h g k = go (eqb k n)
@@ -130,6 +134,7 @@ module _ {b : List ℕ} {e P n page w key position τ : ℕ} (new : Replacement)
     page-kept : pageBytes L b₁ page ≡ pageBytes L b page
     page-kept = spliced .same page (omega (arith, old-is page, own-refs page, same-self page)) (omega (arith, h .more page, page-used))
 
+    -- So its row is read as before.
     pub refs-kept : pagesAt L b₁ page ≡ refs
     refs-kept = ap (refsOf L) page-kept
 
@@ -189,6 +194,113 @@ module _ {b : List ℕ} {e P n page w key position τ : ℕ} (new : Replacement)
         ∙ insertNumbered-length e new (h .fresh) (suc n) (leftFrom w key position) τ (numberedAt 65535 (suc n) (pagesAt L b) (0, page))
         ∙ ap (λ x. length (insertBelow e new (suc n) (leftFrom w key position) τ x)) (numbered-aside 65535 (pagesAt L b) (suc n) (0, page))
 
+    -- The row was placed.
+    module _ {b₂ : List ℕ} (r : Row) (placed : Placed L P n b₁ page b₂ (rowOf r) (parts depthOf e row)) (few : r .count ≤ 65) (low : P < 65536) (full : length (rowOf r) ≡ r .count) where
+      apart : Owned L b₁ (λ q. metAll n (pagesAt L b₁) row q + owned L b₁ page q)
+      apart q = omega (arith, owned-used L b₁ page q used₁, spliced .pages q, old-is q, own-refs q)
+
+      lifted : Stands L P (suc n) b₁ (λ q. metAll n (pagesAt L b₁) row q + owned L b₁ page q) b₂ (rowOf r)
+      lifted = placed-stands row (omega arith) (pre .closing) closed-row (spliced .sound) apart placed
+
+      stands₂ : Stands L P (suc n) b (met (suc n) (pagesAt L b) (0, page)) b₂ (rowOf r)
+      unfolding met
+      stands₂ =
+          record {
+            long = lifted .long ∙ long₁;
+            front = lifted .front ∙ spliced .front;
+            pages = λ q. omega (arith, lifted .pages q, spliced .pages q, old-is q, owned-used L b₁ page q used₁);
+            same = λ q z u.
+                placed .kept q (omega (arith, owned-used L b₁ page q used₁)) (omega (arith, h .more q, placed .more q))
+                ∙ spliced .same q (omega (arith, old-is q)) (omega (arith, h .more q, placed .more q));
+            cleared = λ q c. placed .cleared q (spliced .cleared q c);
+            sound = lifted .sound;
+          }
+
+      fresh₂ : ℕ → List ℕ
+      fresh₂ = withLevel n (placed .fresh) (h .fresh)
+
+      fresh-below : insertNumbered e fresh₂ new n ≡ insertNumbered e (h .fresh) new n
+      unfolding fresh₂
+      fresh-below =
+          insertNumbered-ext e new fresh₂ (h .fresh) n (λ k l. ap (λ (t : Bool). cond t (placed .fresh) (h .fresh k)) (ne-eqb k n (λ i. omega arith)))
+
+      under-fresh : under (page ∷ fresh₂ n) (parts (numberedDepth n) e (replaceIn (numberedDepth n) (insertNumbered e fresh₂ new n) (leftFrom w key position) τ (map (numberedAt 65535 n (pagesAt L b)) refs)))
+          ≡ under (page ∷ placed .fresh) (parts (numberedDepth n) e (replaceIn (numberedDepth n) (insertNumbered e (h .fresh) new n) (leftFrom w key position) τ (map (numberedAt 65535 n (pagesAt L b)) refs)))
+      unfolding fresh₂
+      under-fresh = λ i. under (page ∷ cond (eq-eqb n n refl i) (placed .fresh) (h .fresh n)) (parts (numberedDepth n) e (replaceIn (numberedDepth n) (fresh-below i) (leftFrom w key position) τ (map (numberedAt 65535 n (pagesAt L b)) refs)))
+
+      numbers₂ : map (numberedAt 65535 (suc n) (pagesAt L b₂)) (rowOf r) ≡ insertNumbered e fresh₂ new (suc n) (leftFrom w key position) τ (numberedAt 65535 (suc n) (pagesAt L b) (0, page))
+      unfolding numberedAt
+      numbers₂ =
+          placed-numbered row (omega arith) (pre .closing) closed-row (spliced .sound) apart placed 65535
+          ∙ ap (λ l. under (page ∷ placed .fresh) (parts (numberedDepth n) e l)) row-numbered
+          ∙ sym under-fresh
+
+      -- So the page is replaced.
+      pub replaced-page : Replaced e P new (suc n) (leftFrom w key position) τ b (pre .closing, page) b₂ r
+      unfolding met nodeAt numberedAt fresh₂
+      replaced-page =
+          record {
+            stands = stands₂;
+            closed = placed-closed row (omega arith) (pre .closing) closed-row (spliced .sound) apart placed;
+            fitting = placed-fits row (omega arith) (pre .closing) closed-row (spliced .sound) apart placed low;
+            long = full;
+            few = few;
+            more = λ q. omega (arith, h .more q, placed .more q);
+            total =
+                omega (
+                  arith,
+                  placed .total,
+                  used₁,
+                  parts-count,
+                  each-length (Holding L P n b₂) (rowOf r) (parts depthOf e row) (placed .holds),
+                  closed-nonempty depthOf (pre .closing) (rowOf r) (placed-closed row (omega arith) (pre .closing) closed-row (spliced .sound) apart placed),
+                  h .total,
+                  found-pages,
+                );
+            fresh = fresh₂;
+            free = withLevel-free L b n (placed .fresh) (h .fresh) (still-free L b b₁ (h .more) (placed .fresh) (placed .free)) (h .free);
+            numbers = numbers₂;
+          }
+
+    -- One entry that is the entry found: the page stays as it is.
+    module _ (single : rowOf news ≡ y ∷ []) where
+      row-stays : row ≡ refs
+      row-stays = ap (λ (l : List Ref). before ++ l ++ after) single ∙ append-snoc before y after ∙ sym (found-parted stop)
+
+      page-stays : Placed L P n b₁ page b₁ ((pre .closing, page) ∷ []) (parts depthOf e row)
+      page-stays =
+          rw (row-stays, cut-fits depthOf e (length refs) refs (pre .sound .0 .few))
+          (record {
+            long = refl;
+            front = refl;
+            pages = λ q. omega (arith, owned-used L b₁ page q used₁);
+            more = λ q. omega arith;
+            kept = λ q z u. refl;
+            cleared = λ q c. c;
+            holds = (
+              record {
+                number = pre .sound .0 .number;
+                level = rw page-kept (pre .sound .0 .level);
+                refs = refs-kept;
+                some = pre .sound .0 .some;
+                depth = sym (closed-last depthOf (pre .closing) 0 refs (pre .sound .1));
+              },
+              tt,
+            );
+            fresh = [];
+            numbers = refl;
+            free = tt;
+            total = omega (arith, used₁);
+          })
+
+      -- So it stands in its own place.
+      pub replaced-kept : {r : Row} → Holds r 1 ((lastDepth depthOf 0 (pagesAt L b₁ page), page) ∷ []) → P < 65536 → Replaced e P new (suc n) (leftFrom w key position) τ b (pre .closing, page) b₁ r
+      replaced-kept {r} g low =
+          let last : lastDepth depthOf 0 (pagesAt L b₁ page) ≡ pre .closing = ap (lastDepth depthOf 0) refs-kept ∙ closed-last depthOf (pre .closing) 0 refs (pre .sound .1) in
+          let entries : rowOf r ≡ (pre .closing, page) ∷ [] = g .entries ∙ ap (λ (d : ℕ). (d, page) ∷ []) last in
+          replaced-page r (subst (λ (l : List Ref). Placed L P n b₁ page b₁ l (parts depthOf e row)) (sym entries) page-stays) (omega (arith, g .count)) low (ap length entries ∙ sym (g .count))
+
     -- The spliced row.
     module _ {all : Row} (g : Holds all (s .at + news .count + (length (pagesAt L b₁ page) - suc (s .at))) (splicedAt (s .at) (rowOf news) (pagesAt L b₁ page))) where
       row-is : rowOf all ≡ row
@@ -210,64 +322,7 @@ module _ {b : List ℕ} {e P n page w key position τ : ℕ} (new : Replacement)
             enough = rw row-is (omega (arith, used₁, parts-count, h .total, found-pages, enough));
           }
 
-      -- It was placed.
-      module _ {b₂ : List ℕ} {r : Row} (post : PlacePost e P n b₁ page all b₂ r) (low : P < 65536) (full : length (rowOf r) ≡ r .count) where
-        placed : Placed L P n b₁ page b₂ (rowOf r) (parts depthOf e row)
-        placed = subst (λ (l : List Ref). Placed L P n b₁ page b₂ (rowOf r) (parts depthOf e l)) row-is (post .placed)
-
-        apart : Owned L b₁ (λ q. metAll n (pagesAt L b₁) row q + owned L b₁ page q)
-        apart q = omega (arith, owned-used L b₁ page q used₁, spliced .pages q, old-is q, own-refs q)
-
-        lifted : Stands L P (suc n) b₁ (λ q. metAll n (pagesAt L b₁) row q + owned L b₁ page q) b₂ (rowOf r)
-        lifted = placed-stands row (omega arith) (pre .closing) closed-row (spliced .sound) apart placed
-
-        stands₂ : Stands L P (suc n) b (met (suc n) (pagesAt L b) (0, page)) b₂ (rowOf r)
-        unfolding met
-        stands₂ =
-            record {
-              long = lifted .long ∙ long₁;
-              front = lifted .front ∙ spliced .front;
-              pages = λ q. omega (arith, lifted .pages q, spliced .pages q, old-is q, owned-used L b₁ page q used₁);
-              same = λ q z u.
-                  placed .kept q (omega (arith, owned-used L b₁ page q used₁)) (omega (arith, h .more q, placed .more q))
-                  ∙ spliced .same q (omega (arith, old-is q)) (omega (arith, h .more q, placed .more q));
-              cleared = λ q c. placed .cleared q (spliced .cleared q c);
-              sound = lifted .sound;
-            }
-
-        fresh₂ : ℕ → List ℕ
-        fresh₂ = withLevel n (placed .fresh) (h .fresh)
-
-        fresh-below : insertNumbered e fresh₂ new n ≡ insertNumbered e (h .fresh) new n
-        unfolding fresh₂
-        fresh-below =
-            insertNumbered-ext e new fresh₂ (h .fresh) n (λ k l. ap (λ (t : Bool). cond t (placed .fresh) (h .fresh k)) (ne-eqb k n (λ i. omega arith)))
-
-        under-fresh : under (page ∷ fresh₂ n) (parts (numberedDepth n) e (replaceIn (numberedDepth n) (insertNumbered e fresh₂ new n) (leftFrom w key position) τ (map (numberedAt 65535 n (pagesAt L b)) refs)))
-            ≡ under (page ∷ placed .fresh) (parts (numberedDepth n) e (replaceIn (numberedDepth n) (insertNumbered e (h .fresh) new n) (leftFrom w key position) τ (map (numberedAt 65535 n (pagesAt L b)) refs)))
-        unfolding fresh₂
-        under-fresh = λ i. under (page ∷ cond (eq-eqb n n refl i) (placed .fresh) (h .fresh n)) (parts (numberedDepth n) e (replaceIn (numberedDepth n) (fresh-below i) (leftFrom w key position) τ (map (numberedAt 65535 n (pagesAt L b)) refs)))
-
-        numbers₂ : map (numberedAt 65535 (suc n) (pagesAt L b₂)) (rowOf r) ≡ insertNumbered e fresh₂ new (suc n) (leftFrom w key position) τ (numberedAt 65535 (suc n) (pagesAt L b) (0, page))
-        unfolding numberedAt
-        numbers₂ =
-            placed-numbered row (omega arith) (pre .closing) closed-row (spliced .sound) apart placed 65535
-            ∙ ap (λ l. under (page ∷ placed .fresh) (parts (numberedDepth n) e l)) row-numbered
-            ∙ sym under-fresh
-
-        -- So the page is replaced.
-        pub replaced-page : Replaced e P new (suc n) (leftFrom w key position) τ b (pre .closing, page) b₂ r
-        unfolding met nodeAt numberedAt fresh₂
-        replaced-page =
-            record {
-              stands = stands₂;
-              closed = placed-closed row (omega arith) (pre .closing) closed-row (spliced .sound) apart placed;
-              fitting = placed-fits row (omega arith) (pre .closing) closed-row (spliced .sound) apart placed low;
-              long = full;
-              few = post .few;
-              more = λ q. omega (arith, h .more q, placed .more q);
-              total = omega (arith, placed .total, used₁, parts-count, closed-nonempty depthOf (pre .closing) (rowOf r) (placed-closed row (omega arith) (pre .closing) closed-row (spliced .sound) apart placed), full, post .count, ap (λ (l : List Ref). length (parts depthOf e l)) row-is, h .total, found-pages);
-              fresh = fresh₂;
-              free = withLevel-free L b n (placed .fresh) (h .fresh) (still-free L b b₁ (h .more) (placed .fresh) (placed .free)) (h .free);
-              numbers = numbers₂;
-            }
+      -- So the page is replaced, by way of the spliced row.
+      pub replaced-spliced : {b₂ : List ℕ} {r : Row} → PlacePost e P n b₁ page all b₂ r → P < 65536 → length (rowOf r) ≡ r .count → Replaced e P new (suc n) (leftFrom w key position) τ b (pre .closing, page) b₂ r
+      replaced-spliced {b₂} {r} post low full =
+          replaced-page r (subst (λ (l : List Ref). Placed L P n b₁ page b₂ (rowOf r) (parts depthOf e l)) row-is (post .placed)) (post .few) low full

@@ -71,10 +71,12 @@ module _ {e P : ℕ} {b : List ℕ} {own : ℕ} {row : Row} {cuts : Cuts} (pre :
         fitting = fits 0 (omega (arith, post .some)) 0 first-part;
       }
 
+  -- It ends inside the row.
   pub first-end : (0 < end 0) × (end 0 ≤ 319)
   first-end = (first-part .some, omega (arith, first-part .within, pre .small))
 
   module _ (n : ℕ) {b₁ : List ℕ} (stored : b₁ ≡ store (layoutOf e) b own (rowPage e n (partOf row 0 (end 0)))) where
+    -- The first part is stored.
     pub storing-start : (ds ptrs : List ℕ) → Full ds ptrs → Storing e P n row (take 1 (zip ds ptrs)) b₁ b₁ (end 0) ds ptrs 1
     storing-start ds ptrs f =
         record {
@@ -117,6 +119,7 @@ module _ {e P : ℕ} {b : List ℕ} {own : ℕ} {row : Row} {cuts : Cuts} (pre :
               fitting = fits k l from next-part;
             }
 
+        -- It ends inside the row.
         pub next-end : (0 < end k) × (end k ≤ 319)
         next-end = (omega (arith, next-part .some), omega (arith, next-part .within, pre .small))
 

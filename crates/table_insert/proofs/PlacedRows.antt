@@ -74,6 +74,7 @@ module _ (e P n : ℕ) (b : List ℕ) (p : ℕ) (row : List Ref) (few : length r
   other : (q : ℕ) → (p ≡ q → ⊥) → pageBytes L after q ≡ pageBytes L b q
   other q h = other-page L b p (rowPage e n row) sized q h
 
+  -- The page holds the row.
   pub one-holds : (d : ℕ) → d ≡ lastDepth depthOf 0 row → Holding L P n after (d, p) row
   one-holds d h = record { number = below; level = rw bytes (page-of-level (row-page-head e n row)); refs = refs; some = some; depth = h }
 
@@ -85,9 +86,11 @@ module _ (e P n : ℕ) (b : List ℕ) (p : ℕ) (row : List Ref) (few : length r
       go (inl i) = rw (← i) (omega (arith, used, same-self p))
       go (inr i) = rw (other q (i .0)) (omega (arith, i .1))
 
+  -- No page is freed.
   pub one-more : (q : ℕ) → inUse (pagesAt L b q) ≤ inUse (pagesAt L after q)
   one-more q = omega (arith, one-pages q)
 
+  -- Every other page keeps its bytes.
   pub one-kept : (q : ℕ) → owned L b p q ≡ 0 → inUse (pagesAt L b q) ≡ inUse (pagesAt L after q) → pageBytes L after q ≡ pageBytes L b q
   one-kept q z u = go (same-cases p q)
     where
@@ -95,6 +98,7 @@ module _ (e P n : ℕ) (b : List ℕ) (p : ℕ) (row : List Ref) (few : length r
       go (inl i) = absurd (let s : same p q ≡ 1 = rw (← i) (same-self p) in let v : inUse (pagesAt L after q) ≡ 1 = rw (← i) used in omega arith)
       go (inr i) = other q (i .0)
 
+  -- Cleared pages are cleared then.
   pub one-cleared : (q : ℕ) → Cleared L (pageBytes L b q) → Cleared L (pageBytes L after q)
   one-cleared q h = go (same-cases p q)
     where
@@ -102,12 +106,15 @@ module _ (e P n : ℕ) (b : List ℕ) (p : ℕ) (row : List Ref) (few : length r
       go (inl i) = rw (← i, bytes) (page-of-cleared (row-page-head e n row) some)
       go (inr i) = rw (other q (i .0)) h
 
+  -- How many pages are in use then.
   pub one-total : usedPages P (pagesAt L after) + inUse (pagesAt L b p) ≡ usedPages P (pagesAt L b) + 1
   one-total = omega (arith, used-store L P b p (rowPage e n row) sized below, used)
 
+  -- The table is as long as before.
   pub one-long : length after ≡ length b
   one-long = length-store L b p (rowPage e n row)
 
+  -- What stands before the pages stays.
   pub one-front : take (L .front) after ≡ take (L .front) b
   one-front = front-store L b p (rowPage e n row)
 
@@ -169,6 +176,7 @@ free-more {e} {P} {n} {b} {b₁} {refs} {rows} h p row few some fit table below 
 
 -- ---- the first row in the own page, the others in free pages
 
+-- One page of its own, then free pages.
 pub own-then-free : {e P n : ℕ} {b b′ : List ℕ} {refs : List Ref} {rows : List (List Ref)} (own : ℕ) (row : List Ref) → length row ≤ e → 1 ≤ length row → Fitting 2 row
     → pageStart (layoutOf e) P ≤ length b → own < P → (d : ℕ) → d ≡ lastDepth depthOf 0 row
     → PlacedFree (layoutOf e) P n (store (layoutOf e) b own (rowPage e n row)) b′ refs rows → Placed (layoutOf e) P n b own b′ ((d, own) ∷ refs) (row ∷ rows)

@@ -98,12 +98,15 @@ module _ {e P n : ℕ} {b : List ℕ} {own : ℕ} {b′ : List ℕ} {refs : List
   sound′ : All (SoundBelow (layoutOf e) P n b′) row
   sound′ = placed-stays .sound P sound
 
+  -- The entries above close as the row does.
   pub placed-closed : Closed depthOf c refs
   placed-closed = each-closed (layoutOf e) P n b′ c refs (parts depthOf e row) (h .holds) (parts-cut depthOf e c row one closed .closed)
 
+  -- Their pointers fit.
   pub placed-fits : P < 65536 → Fitting 2 refs
   placed-fits low = each-fits (layoutOf e) P n b′ low refs (parts depthOf e row) (h .holds)
 
+  -- They stand in the place of the row and the own page.
   pub placed-stands : Stands (layoutOf e) P (suc n) b (λ q. metAll n (pagesAt (layoutOf e) b) row q + owned (layoutOf e) b own q) b′ refs
   placed-stands =
       record {
@@ -122,6 +125,7 @@ module _ {e P n : ℕ} {b : List ℕ} {own : ℕ} {b′ : List ℕ} {refs : List
         sound = each-sound (layoutOf e) P n b′ refs (parts depthOf e row) (h .holds) (parts-cut depthOf e c row one closed .pages) (cut-all depthOf e (SoundBelow (layoutOf e) P n b′) (length row) row sound′);
       }
 
+  -- What they stand for, with page numbers: the parts of what the row stands for.
   pub placed-numbered : (nil : ℕ)
       → map (numberedAt nil (suc n) (pagesAt (layoutOf e) b′)) refs ≡ under (own ∷ h .fresh) (parts (numberedDepth n) e (map (numberedAt nil n (pagesAt (layoutOf e) b)) row))
   placed-numbered nil =

@@ -59,6 +59,7 @@ module _ {e P n : ℕ} {b : List ℕ} {row : Row} (pre : GrowPre e P n b row) (f
   only : rowOf row ≡ x ∷ []
   only = one-entry row full (omega (arith, pre .long, closed-nonempty depthOf (lastDepth depthOf 0 (rowOf row)) (rowOf row) (pre .closed)))
 
+  -- Its pointer is a page number.
   pub root-fits : getD (row .pointers) 0 0 < 65536
   root-fits = subst (Fitting 2) only (pre .fitting) .0
 
@@ -113,6 +114,7 @@ module _ {e P n : ℕ} {b : List ℕ} {row : Row} (pre : GrowPre e P n b row) (m
         parts-count,
       )
 
+  -- There is a free page.
   pub root-free : (pageStart L P ≤ length b) × (usedPages P (pagesAt L b) < P)
   root-free = (pre .table, omega (arith, room, parts-count, parts-some))
 
@@ -120,6 +122,7 @@ module _ {e P n : ℕ} {b : List ℕ} {row : Row} (pre : GrowPre e P n b row) (m
   pub root-level : suc n ≤ 15
   root-level = omega (arith, pre .low, ap (λ (t : Tree). t .0) again, grow-level e (length (rootParts e n nodes)) (suc n) (rootParts e n nodes))
 
+  -- The row can be placed from a page on.
   pub root-place : (own : ℕ) → own < P → PlacePre e P b own row
   root-place own below =
       record {
@@ -220,6 +223,7 @@ module _ {e P n : ℕ} {b : List ℕ} {row : Row} (pre : GrowPre e P n b row) (m
           ∙ ap (λ (ps : List ℕ). grownNumbered e fresh₂ (suc n) (under ps (parts (numberedDepth (suc n)) e numbered))) (sym here)
           ∙ sym (grownNumbered-again e (pre .entries-low) fresh₂ n numbered (omega (arith, length-map (rowOf row) (numberedAt 65535 (suc n) (pagesAt L b)), pre .long)))
 
+      -- What stands there stands above these parts.
       pub root-done : GrowPost e P n b (rowOf row) b₂ r
       unfolding fresh₂
       root-done =
@@ -252,11 +256,14 @@ module _ {e P n : ℕ} {b : List ℕ} {row : Row} (pre : GrowPre e P n b row) (m
   post₁ : PlacePost e P (suc n) b own row b₁ up
   post₁ = subst (λ (z : ℕ). PlacePost e P z b own row b₁ up) next post
 
+  -- Fewer parts,
   pub up-fewer : up .count < row .count
   up-fewer = root-fewer pre many free low post₁ full
 
+  -- the same asked again,
   pub up-again : GrowPre e P l b₁ up
   up-again = subst (λ (z : ℕ). GrowPre e P z b₁ up) (sym next) (root-again pre many free low post₁ full)
 
+  -- and the same left.
   pub up-done : {b₂ : List ℕ} {r : Root} → GrowPost e P l b₁ (rowOf up) b₂ r → GrowPost e P n b (rowOf row) b₂ r
   up-done {b₂} {r} g = root-done pre many free low post₁ full (subst (λ (z : ℕ). GrowPost e P z b₁ (rowOf up) b₂ r) next g)

@@ -10,7 +10,7 @@ use Rattle.page_tree.specs.OnPages.{Replacement, pagesBelow}
 use Rattle.page_tree.specs.Numbered.{insertNumbered}
 use Rattle.page_tree.specs.Row.{depthOf, rowOf}
 use Rattle.page_tree.specs.declared.Row.{Row}
-use Rattle.index_table.specs.Layout.{layoutOf, Ref, Fitting}
+use Rattle.index_table.specs.Layout.{layoutOf, Ref, Within, Fitting}
 use Rattle.index_table.specs.Pages.{pagesAt, leafOf, nodeAt, numberedAt, met, inUse, usedPages}
 use Rattle.index_table.specs.Standing.{Owned, Stands}
 use Rattle.table_search.specs.Places.{leftFrom, DescendPre}
@@ -37,6 +37,12 @@ pub record Replaced (e P : ℕ) (new : Replacement) (n : ℕ) (bs : List ℕ) (�
   pub fresh : ℕ → List ℕ
   pub free : (k : ℕ) → All (λ q. pagesAt (layoutOf e) b q ≡ []) (fresh k)
   pub numbers : map (numberedAt 65535 n (pagesAt (layoutOf e) b′)) (rowOf r) ≡ insertNumbered e fresh new n bs τ (numberedAt 65535 n (pagesAt (layoutOf e) b) x)
+
+-- A page in use within the bytes.
+pub record AlonePre (e : ℕ) (b : List ℕ) (page : ℕ) : Type 0 where
+  pub within : Within (layoutOf e) b page
+  pub some : 1 ≤ length (pagesAt (layoutOf e) b page)
+  pub few : length (pagesAt (layoutOf e) b page) ≤ e
 
 -- A page of level n of a sound tree, new entries that close as the entry found does, and pages enough.
 pub record InsertPre (b : List ℕ) (e P n page w key position τ : ℕ) (news : Row) : Type 0 where

@@ -1,16 +1,19 @@
 // New entries put into the pages of a sound tree: the page found is changed and cut, its parts enter the parent, and so up.
 ghost use mathlib.Core.Path.{_≡_};
-ghost use Prim.Native.Nat.{_+_, _-_, _<_};
-ghost use Rattle.table_insert.specs.Placing.{PlacePre, PlacePost, PartPre, PartPost};
+ghost use mathlib.Core.List.{[], _∷_};
+ghost use Prim.Native.Nat.{suc, _+_, _-_, _<_};
+ghost use Rattle.page_tree.specs.Row.{rowOf, Holds};
 ghost use Rattle.table_search.specs.Places.{leftFrom};
-ghost use Prim.Native.Nat.{suc};
-ghost use Rattle.table_insert.specs.Inserting.{newLeaves, pageRef, Replaced, InsertPre};
+ghost use Rattle.table_insert.specs.Placing.{PlacePre, PlacePost, PartPre, PartPost};
+ghost use Rattle.table_insert.specs.Inserting.{newLeaves, pageRef, Replaced, AlonePre, InsertPre};
 ghost use Rattle.table_insert.specs.NewRoots.{GrowPre, GrowPost};
 ghost use Rattle.table_insert.specs.Putting.{PutPre, PutPost};
-ghost use Rattle.page_tree.specs.Row.{rowOf};
 use index_table::layout::PageNo;
 use index_table::layout::Root;
 use index_table::layout::child;
+use index_table::layout::count;
+use index_table::layout::depth;
+use index_table::layout::wide;
 use index_table::rows::splice_page;
 use index_table::write::find_free;
 use index_table::write::store_page;
@@ -70,6 +73,16 @@ pub fn place_parts(index: &mut [u8], e: u8, pages: u16, level: u8, own: PageNo, 
     r
 }
 
+// The page as an only entry, with its last depth.
+fn page_alone(index: &[u8], e: u8, page: PageNo) -> Row
+    requires { ⌜ AlonePre e (now index) (page .0) ⌝ }
+    ensures { λ r. ⌜ Holds r 1 (pageRef e (now (index .entry)) (page .0) ∷ []) ⌝ }
+{
+    let n = wide(count(index, e, page));
+    let d = depth(index, e, page, n - 1);
+    Row::new().push(d, pointer_to(page))
+}
+
 // New entries in the place of the entry that figure 6 finds below a page of a level, and what then stands in the place of the page.
 pub fn insert(
     index: &mut [u8],
@@ -105,6 +118,9 @@ pub fn insert(
         s.trail,
         news,
     );
+    if parts.count == 1 {
+        return page_alone(index, e, page);
+    }
     let row = splice_page(index, e, page, at, parts);
     place_parts(index, e, pages, level, page, row)
 }

@@ -4,7 +4,7 @@ use Rattle.page_tree.proofs.RowLaws.{length-row}
 use Rattle.index_table.specs.Layout.{layoutOf}
 use Rattle.index_table.proofs.PageRows.{refs-fit}
 use Rattle.table_search.proofs.Descents.{descend-within, descend-seek, descend-inside}
-use Rattle.table_insert.proofs.Insertions.{leaf-replaced, child-insert, child-replaced, insert-splice, insert-place, insert-done}
+use Rattle.table_insert.proofs.Insertions.{leaf-replaced, child-insert, child-replaced, insert-splice, insert-place, insert-done, alone-pre, alone-done}
 use borrow.Author.Needs.{needs}
 use Prim.Native.Nat.{ℕ, _<_}
 use borrow.Fn.Kinds.{In}
@@ -14,6 +14,7 @@ use Rattle.table_insert.proofs.insert.Kinds as insert-kinds
 use Rattle.table_insert.proofs.+insert.Lts-insert as insert-lts
 use Rattle.index_table.proofs.layout.child.Reads as child-reads
 use Rattle.index_table.proofs.rows.splice_page.Reads as splice-page-reads
+use Rattle.table_insert.proofs.page_alone.Reads as page-alone-reads
 use Rattle.table_insert.proofs.place_parts.Reads as place-parts-reads
 use Rattle.table_search.proofs.seek.Reads as seek-reads
 use Rattle.table_insert.proofs.+insert.{statement}
@@ -39,6 +40,8 @@ insert-seek-requires : (t : ℕ) → insert-lts.Need-seek-requires (
   child-reads.Learnt,
   insert-below t,
   insert.Post,
+  page-alone-reads.Asked,
+  page-alone-reads.Learnt,
 ) (insert-at t) insert.Post
 insert-seek-requires t c κs =
     descend-seek (c .before .before .pre .1 .descend)
@@ -54,6 +57,8 @@ insert-splice-page-requires : (t : ℕ) → insert-lts.Need-splice-page-requires
   child-reads.Learnt,
   insert-below t,
   insert.Post,
+  page-alone-reads.Asked,
+  page-alone-reads.Learnt,
 ) (insert-at t) insert.Post
 insert-splice-page-requires t c κs =
     let pre = c .before .before .before .before .before .pre .1 in
@@ -72,6 +77,8 @@ insert-place-parts-requires : (t : ℕ) → insert-lts.Need-place-parts-requires
   child-reads.Learnt,
   insert-below t,
   insert.Post,
+  page-alone-reads.Asked,
+  page-alone-reads.Learnt,
 ) (insert-at t) insert.Post
 insert-place-parts-requires t c κs =
     let pre = c .before .before .before .before .before .before .before .pre .1 in
@@ -90,6 +97,8 @@ insert-same-length : (t : ℕ) → insert-lts.Need-same-length (
   child-reads.Learnt,
   insert-below t,
   insert.Post,
+  page-alone-reads.Asked,
+  page-alone-reads.Learnt,
 ) (insert-at t) insert.Post
 insert-same-length t c = search needs
 
@@ -104,6 +113,8 @@ insert-returns : (t : ℕ) → insert-lts.Need-returns (
   child-reads.Learnt,
   insert-below t,
   insert.Post,
+  page-alone-reads.Asked,
+  page-alone-reads.Learnt,
 ) (insert-at t) insert.Post
 insert-returns t c =
     let pre = c .before .before .before .before .before .before .before .before .before .before .pre .1 in
@@ -122,6 +133,8 @@ insert-child-requires : (t : ℕ) → insert-lts.Need-child-requires (
   child-reads.Learnt,
   insert-below t,
   insert.Post,
+  page-alone-reads.Asked,
+  page-alone-reads.Learnt,
 ) (insert-at t) insert.Post
 insert-child-requires t c κs =
     (descend-within (c .before .before .before .before .before .pre .1 .descend), descend-inside (c .before .before .before .before .before .pre .1 .descend) _ (c .before .before .seek .ensures))
@@ -137,6 +150,8 @@ insert-sub-insert : (t : ℕ) → insert-lts.Need-sub-insert (
   child-reads.Learnt,
   insert-below t,
   insert.Post,
+  page-alone-reads.Asked,
+  page-alone-reads.Learnt,
 ) (insert-at t) insert.Post
 insert-sub-insert t c = search needs
 
@@ -151,6 +166,8 @@ insert-insert-requires : (t : ℕ) → insert-lts.Need-insert-requires (
   child-reads.Learnt,
   insert-below t,
   insert.Post,
+  page-alone-reads.Asked,
+  page-alone-reads.Learnt,
 ) (insert-at t) insert.Post
 insert-insert-requires t c κs =
     let pre = c .before .before .before .before .before .before .before .pre .1 in
@@ -158,7 +175,7 @@ insert-insert-requires t c κs =
     let fits = refs-fit (layoutOf (c .before .before .before .before .before .before .before .args .e)) (c .before .before .before .before .before .before .before .args .index .now) (c .before .before .before .before .before .before .before .args .page .0) (λ i. omega (arith, c .before .before .before .before .before .before .slice-known .given i)) in
     (omega (arith, c .before .before .before .before .before .before .before .pre .0), child-insert _ (c .before .before .before .if1 .left) pre fits stop _ (c .before .child .ensures))
 
-insert-splice-page-requires-2 : (t : ℕ) → insert-lts.Need-splice-page-requires-2 (
+insert-page-alone-requires : (t : ℕ) → insert-lts.Need-page-alone-requires (
   seek-reads.Asked,
   seek-reads.Learnt,
   splice-page-reads.Asked,
@@ -169,30 +186,14 @@ insert-splice-page-requires-2 : (t : ℕ) → insert-lts.Need-splice-page-requir
   child-reads.Learnt,
   insert-below t,
   insert.Post,
+  page-alone-reads.Asked,
+  page-alone-reads.Learnt,
 ) (insert-at t) insert.Post
-insert-splice-page-requires-2 t c κs =
-    let pre = c .before .before .before .before .before .before .before .before .before .before .before .pre .1 in
-    let stop = c .before .before .before .before .before .before .before .before .seek .ensures in
-    let fits = refs-fit (layoutOf (c .before .before .before .before .before .before .before .before .before .before .before .args .e)) (c .before .before .before .before .before .before .before .before .before .before .before .args .index .now) (c .before .before .before .before .before .before .before .before .before .before .before .args .page .0) (λ i. omega (arith, c .before .before .before .before .before .before .before .before .before .before .slice-known .given i)) in
-    insert-splice pre fits stop (child-replaced _ (c .before .before .before .before .before .before .before .if1 .left) pre fits stop _ (c .before .before .before .before .before .child .ensures) (c .before .before .before .insert .ensures))
-
-insert-place-parts-requires-2 : (t : ℕ) → insert-lts.Need-place-parts-requires-2 (
-  seek-reads.Asked,
-  seek-reads.Learnt,
-  splice-page-reads.Asked,
-  splice-page-reads.Learnt,
-  place-parts-reads.Asked,
-  place-parts-reads.Learnt,
-  child-reads.Asked,
-  child-reads.Learnt,
-  insert-below t,
-  insert.Post,
-) (insert-at t) insert.Post
-insert-place-parts-requires-2 t c κs =
+insert-page-alone-requires t c κs =
     let pre = c .before .before .before .before .before .before .before .before .before .before .before .before .before .pre .1 in
     let stop = c .before .before .before .before .before .before .before .before .before .before .seek .ensures in
     let fits = refs-fit (layoutOf (c .before .before .before .before .before .before .before .before .before .before .before .before .before .args .e)) (c .before .before .before .before .before .before .before .before .before .before .before .before .before .args .index .now) (c .before .before .before .before .before .before .before .before .before .before .before .before .before .args .page .0) (λ i. omega (arith, c .before .before .before .before .before .before .before .before .before .before .before .before .slice-known .given i)) in
-    insert-place pre fits stop (child-replaced _ (c .before .before .before .before .before .before .before .before .before .if1 .left) pre fits stop _ (c .before .before .before .before .before .before .before .child .ensures) (c .before .before .before .before .before .insert .ensures)) (c .before .splice-page2 .ensures)
+    alone-pre pre fits stop (child-replaced _ (c .before .before .before .before .before .before .before .before .before .if1 .left) pre fits stop _ (c .before .before .before .before .before .before .before .child .ensures) (c .before .before .before .before .before .insert .ensures)) (c .before .before .before .before .before .before .before .before .before .if1 .left) (c .before .if2 .taken)
 
 insert-same-length-2 : (t : ℕ) → insert-lts.Need-same-length-2 (
   seek-reads.Asked,
@@ -205,6 +206,8 @@ insert-same-length-2 : (t : ℕ) → insert-lts.Need-same-length-2 (
   child-reads.Learnt,
   insert-below t,
   insert.Post,
+  page-alone-reads.Asked,
+  page-alone-reads.Learnt,
 ) (insert-at t) insert.Post
 insert-same-length-2 t c = search needs
 
@@ -219,12 +222,90 @@ insert-returns-2 : (t : ℕ) → insert-lts.Need-returns-2 (
   child-reads.Learnt,
   insert-below t,
   insert.Post,
+  page-alone-reads.Asked,
+  page-alone-reads.Learnt,
 ) (insert-at t) insert.Post
 insert-returns-2 t c =
-    let pre = c .before .before .before .before .before .before .before .before .before .before .before .before .before .before .before .before .pre .1 in
-    let stop = c .before .before .before .before .before .before .before .before .before .before .before .before .before .seek .ensures in
-    let fits = refs-fit (layoutOf (c .before .before .before .before .before .before .before .before .before .before .before .before .before .before .before .before .args .e)) (c .before .before .before .before .before .before .before .before .before .before .before .before .before .before .before .before .args .index .now) (c .before .before .before .before .before .before .before .before .before .before .before .before .before .before .before .before .args .page .0) (λ i. omega (arith, c .before .before .before .before .before .before .before .before .before .before .before .before .before .before .before .slice-known .given i)) in
-    insert-done pre fits stop (child-replaced _ (c .before .before .before .before .before .before .before .before .before .before .before .before .if1 .left) pre fits stop _ (c .before .before .before .before .before .before .before .before .before .before .child .ensures) (c .before .before .before .before .before .before .before .before .insert .ensures)) (c .before .before .before .before .splice-page2 .ensures) (c .before .before .place-parts2 .ensures) (omega (arith, c .before .before .before .before .before .before .before .before .before .before .before .before .before .before .before .before .fits)) (length-row (c .before .before .place-parts2 .result) (search needs, search needs) (omega (arith, c .before .before .place-parts2 .ensures .few)))
+    let pre = c .before .before .before .before .before .before .before .before .before .before .before .before .before .before .pre .1 in
+    let stop = c .before .before .before .before .before .before .before .before .before .before .before .seek .ensures in
+    let fits = refs-fit (layoutOf (c .before .before .before .before .before .before .before .before .before .before .before .before .before .before .args .e)) (c .before .before .before .before .before .before .before .before .before .before .before .before .before .before .args .index .now) (c .before .before .before .before .before .before .before .before .before .before .before .before .before .before .args .page .0) (λ i. omega (arith, c .before .before .before .before .before .before .before .before .before .before .before .before .before .slice-known .given i)) in
+    alone-done pre fits stop (child-replaced _ (c .before .before .before .before .before .before .before .before .before .before .if1 .left) pre fits stop _ (c .before .before .before .before .before .before .before .before .child .ensures) (c .before .before .before .before .before .before .insert .ensures)) (c .before .before .before .before .before .before .before .before .before .before .if1 .left) (c .before .before .if2 .taken) (c .page-alone .ensures) (omega (arith, c .before .before .before .before .before .before .before .before .before .before .before .before .before .before .fits))
+
+insert-splice-page-requires-2 : (t : ℕ) → insert-lts.Need-splice-page-requires-2 (
+  seek-reads.Asked,
+  seek-reads.Learnt,
+  splice-page-reads.Asked,
+  splice-page-reads.Learnt,
+  place-parts-reads.Asked,
+  place-parts-reads.Learnt,
+  child-reads.Asked,
+  child-reads.Learnt,
+  insert-below t,
+  insert.Post,
+  page-alone-reads.Asked,
+  page-alone-reads.Learnt,
+) (insert-at t) insert.Post
+insert-splice-page-requires-2 t c κs =
+    let pre = c .before .before .before .before .before .before .before .before .before .before .before .before .before .pre .1 in
+    let stop = c .before .before .before .before .before .before .before .before .before .before .seek .ensures in
+    let fits = refs-fit (layoutOf (c .before .before .before .before .before .before .before .before .before .before .before .before .before .args .e)) (c .before .before .before .before .before .before .before .before .before .before .before .before .before .args .index .now) (c .before .before .before .before .before .before .before .before .before .before .before .before .before .args .page .0) (λ i. omega (arith, c .before .before .before .before .before .before .before .before .before .before .before .before .slice-known .given i)) in
+    insert-splice pre fits stop (child-replaced _ (c .before .before .before .before .before .before .before .before .before .if1 .left) pre fits stop _ (c .before .before .before .before .before .before .before .child .ensures) (c .before .before .before .before .before .insert .ensures))
+
+insert-place-parts-requires-2 : (t : ℕ) → insert-lts.Need-place-parts-requires-2 (
+  seek-reads.Asked,
+  seek-reads.Learnt,
+  splice-page-reads.Asked,
+  splice-page-reads.Learnt,
+  place-parts-reads.Asked,
+  place-parts-reads.Learnt,
+  child-reads.Asked,
+  child-reads.Learnt,
+  insert-below t,
+  insert.Post,
+  page-alone-reads.Asked,
+  page-alone-reads.Learnt,
+) (insert-at t) insert.Post
+insert-place-parts-requires-2 t c κs =
+    let pre = c .before .before .before .before .before .before .before .before .before .before .before .before .before .before .before .pre .1 in
+    let stop = c .before .before .before .before .before .before .before .before .before .before .before .before .seek .ensures in
+    let fits = refs-fit (layoutOf (c .before .before .before .before .before .before .before .before .before .before .before .before .before .before .before .args .e)) (c .before .before .before .before .before .before .before .before .before .before .before .before .before .before .before .args .index .now) (c .before .before .before .before .before .before .before .before .before .before .before .before .before .before .before .args .page .0) (λ i. omega (arith, c .before .before .before .before .before .before .before .before .before .before .before .before .before .before .slice-known .given i)) in
+    insert-place pre fits stop (child-replaced _ (c .before .before .before .before .before .before .before .before .before .before .before .if1 .left) pre fits stop _ (c .before .before .before .before .before .before .before .before .before .child .ensures) (c .before .before .before .before .before .before .before .insert .ensures)) (c .before .splice-page2 .ensures)
+
+insert-same-length-3 : (t : ℕ) → insert-lts.Need-same-length-3 (
+  seek-reads.Asked,
+  seek-reads.Learnt,
+  splice-page-reads.Asked,
+  splice-page-reads.Learnt,
+  place-parts-reads.Asked,
+  place-parts-reads.Learnt,
+  child-reads.Asked,
+  child-reads.Learnt,
+  insert-below t,
+  insert.Post,
+  page-alone-reads.Asked,
+  page-alone-reads.Learnt,
+) (insert-at t) insert.Post
+insert-same-length-3 t c = search needs
+
+insert-returns-3 : (t : ℕ) → insert-lts.Need-returns-3 (
+  seek-reads.Asked,
+  seek-reads.Learnt,
+  splice-page-reads.Asked,
+  splice-page-reads.Learnt,
+  place-parts-reads.Asked,
+  place-parts-reads.Learnt,
+  child-reads.Asked,
+  child-reads.Learnt,
+  insert-below t,
+  insert.Post,
+  page-alone-reads.Asked,
+  page-alone-reads.Learnt,
+) (insert-at t) insert.Post
+insert-returns-3 t c =
+    let pre = c .before .before .before .before .before .before .before .before .before .before .before .before .before .before .before .before .before .before .pre .1 in
+    let stop = c .before .before .before .before .before .before .before .before .before .before .before .before .before .before .before .seek .ensures in
+    let fits = refs-fit (layoutOf (c .before .before .before .before .before .before .before .before .before .before .before .before .before .before .before .before .before .before .args .e)) (c .before .before .before .before .before .before .before .before .before .before .before .before .before .before .before .before .before .before .args .index .now) (c .before .before .before .before .before .before .before .before .before .before .before .before .before .before .before .before .before .before .args .page .0) (λ i. omega (arith, c .before .before .before .before .before .before .before .before .before .before .before .before .before .before .before .before .before .slice-known .given i)) in
+    insert-done pre fits stop (child-replaced _ (c .before .before .before .before .before .before .before .before .before .before .before .before .before .before .if1 .left) pre fits stop _ (c .before .before .before .before .before .before .before .before .before .before .before .before .child .ensures) (c .before .before .before .before .before .before .before .before .before .before .insert .ensures)) (c .before .before .before .before .splice-page2 .ensures) (c .before .before .place-parts2 .ensures) (omega (arith, c .before .before .before .before .before .before .before .before .before .before .before .before .before .before .before .before .before .before .fits)) (length-row (c .before .before .place-parts2 .result) (search needs, search needs) (omega (arith, c .before .before .place-parts2 .ensures .few)))
 
 pub +insert-spec : {M : Type 1} → statement M
 +insert-spec = close μ-insert λ t. insert-lts.spec (
@@ -238,6 +319,8 @@ pub +insert-spec : {M : Type 1} → statement M
   child-reads.Learnt,
   insert-below t,
   insert.Post,
+  page-alone-reads.Asked,
+  page-alone-reads.Learnt,
 )
     (insert-at t)
     insert.Post
@@ -249,7 +332,10 @@ pub +insert-spec : {M : Type 1} → statement M
     (insert-child-requires t)
     (insert-sub-insert t)
     (insert-insert-requires t)
-    (insert-splice-page-requires-2 t)
-    (insert-place-parts-requires-2 t)
+    (insert-page-alone-requires t)
     (insert-same-length-2 t)
     (insert-returns-2 t)
+    (insert-splice-page-requires-2 t)
+    (insert-place-parts-requires-2 t)
+    (insert-same-length-3 t)
+    (insert-returns-3 t)
