@@ -100,8 +100,8 @@ fn shapes_of_all_kinds() {
 fn every_width_with_two_entries_a_page() {
     let mut met = Met::default();
     for width in 1..=64 {
-        for seed in seeds(2) {
-            let mut random = Random::new(seed + 100 * width as u64);
+        for seed in seeds(2).map(|seed| seed + 100 * width as u64) {
+            let mut random = Random::new(seed);
             let shape = Shape {
                 width,
                 entries: 2,
