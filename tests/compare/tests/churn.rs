@@ -305,7 +305,7 @@ fn small_pages(width: usize, entries: usize, pages: usize, records: usize) -> Me
 
 #[test]
 fn two_entries_a_page() {
-    let met = small_pages(64, 2, 220, 20);
+    let met = small_pages(26, 2, 150, 20);
     met.assert(100, &["on 8"]);
 }
 
