@@ -9,18 +9,20 @@ use std::collections::BTreeMap;
 #[derive(Clone, Debug, Default)]
 pub struct Met(BTreeMap<String, usize>);
 
-/// How many pages are in use on each level of sound tables, the root's last.
+/// How many pages are in use on each level, the root's last.
 pub type Levels = Vec<usize>;
 
-/// The pages in use on each level of sound tables.
+/// The pages in use on each level, up to the root's. It answers for tables that
+/// are not sound too.
 pub fn levels(tables: &Tables) -> Levels {
-    let index = &tables.index;
-    let header = header(index);
-    let root = page_bytes(index, header.root)[0];
-    let mut levels = vec![0; usize::from(root) + 1];
-    let heads = (0..header.pages as u32).map(|page| page_bytes(index, page));
-    for head in heads.filter(|head| head[1] != 0) {
-        levels[usize::from(head[0])] += 1;
+    let header = header(&tables.index);
+    let page = |number| page_bytes(&tables.index, number);
+    let root = header.root.min(header.pages as u32 - 1);
+    let mut levels = vec![0; usize::from(page(root)[0]) + 1];
+    for head in (0..header.pages as u32).map(page) {
+        if let Some(level) = levels.get_mut(usize::from(head[0])) {
+            *level += usize::from(head[1] != 0);
+        }
     }
     levels
 }
@@ -83,16 +85,15 @@ impl Met {
     }
 
     fn add_cuts(&mut self, before: &Levels, after: &Levels) {
-        self.add(match sum(after) - sum(before) {
+        self.add(match pages(after).saturating_sub(pages(before)) {
             0 => "no cut",
             1 => "one page taken",
             _ => "pages taken",
         });
-        let parents = 1..before.len();
-        if sum(&after[parents.clone()]) > sum(&before[parents]) {
+        if parents(after, before.len()) > parents(before, before.len()) {
             self.add("parent cut");
         }
-        match after.len() - before.len() {
+        match after.len().saturating_sub(before.len()) {
             0 => {}
             1 => self.add("new root"),
             _ => self.add("new root cut"),
@@ -100,16 +101,15 @@ impl Met {
     }
 
     fn add_emptied(&mut self, before: &Levels, after: &Levels) {
-        self.add(match before[0] - after[0] {
+        self.add(match before[0].saturating_sub(after[0]) {
             0 => "no page emptied",
             1 => "page emptied",
             _ => "pages emptied",
         });
-        let parents = 1..after.len();
-        if sum(&after[parents.clone()]) < sum(&before[parents]) {
+        if parents(after, after.len()) < parents(before, after.len()) {
             self.add("parent emptied");
         }
-        match before.len() - after.len() {
+        match before.len().saturating_sub(after.len()) {
             0 => {}
             1 => self.add("root lowered"),
             _ => self.add("root lowered further"),
@@ -131,6 +131,11 @@ impl Met {
     }
 }
 
-fn sum(levels: &[usize]) -> usize {
+fn pages(levels: &Levels) -> usize {
     levels.iter().sum()
+}
+
+/// The pages above level 0 and below level `end`.
+fn parents(levels: &Levels, end: usize) -> usize {
+    levels.iter().take(end).skip(1).sum()
 }

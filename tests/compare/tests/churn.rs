@@ -180,7 +180,7 @@ impl Yard {
         let width = run.map.width as usize;
         match self.random.below(4) {
             0 => self.held(run) ^ 1 << self.random.below(width),
-            1 => (1 << (width - 1)) + self.random.number() % 8_192 & largest_key(width),
+            1 => ((1 << (width - 1)) + self.random.number() % 8_192) & largest_key(width),
             _ => key(&mut self.random, width, self.spread),
         }
     }

@@ -10,12 +10,12 @@ use model::history::{follow_from, Call, History, Outcome, Shape};
 use model::index::Index;
 use model::map::Map;
 use model::random::histories::calls;
-use model::random::keys::{key, largest_key, SPREADS};
+use model::random::keys::{key, largest_key, Spread, SPREADS};
 use model::random::places::pages_in_use;
-use model::random::sound_tables::sound_index;
+use model::random::sound_tables::{number_pages, sound_index};
 use model::random::Random;
 use model::shrink::must_hold;
-use model::table::{header, stored_page, Tables};
+use model::table::{header, read, stored_page, Tables};
 use std::cell::RefCell;
 
 fn shape_of(index: &Index) -> Shape {
@@ -153,6 +153,45 @@ fn larger_herds() {
         }
     }
     met.assert(40, &["on 0", "off 0"]);
+}
+
+/// The most pages and the most records, both in use anywhere.
+#[test]
+fn tables_at_their_limits() {
+    let mut met = Met::default();
+    for seed in seeds(5) {
+        let mut random = Random::new(seed);
+        let width = random.between(16, 64);
+        let mut tables = formatted(Shape {
+            width,
+            entries: random.between(2, 4),
+            pages: 65_534,
+            records: 65_534,
+        });
+        let mut held = Vec::new();
+        for number in 0..24 {
+            let mut index = read(tables.lent());
+            index.root = index.root.without_numbers();
+            number_pages(&mut random, &mut index.root, 65_534);
+            tables = Tables::of(&index);
+            let change = match number {
+                0..=12 => {
+                    held.push(key(&mut random, width, Spread::Clustered));
+                    let record = match number {
+                        0 => 65_533,
+                        _ => random.below(65_535),
+                    };
+                    Call::On(held[held.len() - 1], record as u64)
+                }
+                _ => Call::Off(held.swap_remove(random.below(held.len()))),
+            };
+            if let Err(how) = beside(&mut tables, &change, &mut met) {
+                panic!("seed {seed}, {change:?}: {how}");
+            }
+        }
+    }
+    met.assert(20, &["on 0", "off 0"]);
+    met.assert(5, &["pages taken", "pages emptied"]);
 }
 
 fn two_records(width: usize, pages: usize) -> Shape {
