@@ -10,9 +10,14 @@
    Every call but check answers a number: 0 done, or, the first that applies,
      9  format: W is not 1 to 64, E not 2 to 255, P not 1 to 65534, the
         register not 1 to 65534 records, or a table not as long as they say;
-     1  find, list: the tables are not sound;
-     2  find, list: a key of more than W bits (either end of a list);
-     6  find: the key is not held.
+     1  on, off, find, list: the tables are not sound;
+     2  on, off, find, list: a key of more than W bits (either end of a list);
+     3  on: the record is at or past the register's length;
+     4  on: the record is in use;
+     5  on: the key is held;
+     6  off, find: the key is not held;
+     8  on: the root would stand above level 15;
+     7  on: more than P pages would be in use after it.
    A refusal has record 65535, count 0 and more false, and changes no lent
    byte. A done call leaves so what it does not set. */
 #ifndef TAG_INDEX_H
@@ -38,6 +43,19 @@ struct tag_index_answer tag_index_format(uint8_t *index, size_t index_bytes,
                                          uint64_t *keys, size_t keys_length,
                                          uint8_t *used, size_t used_length,
                                          uint64_t w, uint64_t e, uint64_t p);
+
+/* On: the key is held, on this record. Refused by 1, 2, 3, 4, 5, 8, 7. */
+struct tag_index_answer tag_index_on(uint8_t *index, size_t index_bytes,
+                                     uint64_t *keys, size_t keys_length,
+                                     uint8_t *used, size_t used_length,
+                                     uint64_t key, uint32_t record);
+
+/* Off: the key is held no more; its record and any emptied pages are free.
+   Refused by 1, 2, 6. */
+struct tag_index_answer tag_index_off(uint8_t *index, size_t index_bytes,
+                                      uint64_t *keys, size_t keys_length,
+                                      uint8_t *used, size_t used_length,
+                                      uint64_t key);
 
 /* Find: the record of a key. Refused by 1, 2, 6; changes no byte. */
 struct tag_index_answer tag_index_find(const uint8_t *index, size_t index_bytes,

@@ -43,9 +43,9 @@ pub fn tags(random: &mut Random, count: usize) -> Vec<u64> {
     tags
 }
 
-/// Sound tables where key i of the slice is on record i, with a quarter more
-/// pages than are in use.
-pub fn tables(keys: &[u64]) -> Tables {
+/// Sound tables where key i of the slice is on record i and `free` records more
+/// are free, with a quarter more pages than are in use.
+pub fn tables(keys: &[u64], free: usize) -> Tables {
     let mut herd: Vec<(u64, u32)> = keys.iter().copied().zip(0..).collect();
     herd.sort_unstable();
     let mut leaves = Vec::new();
@@ -53,12 +53,14 @@ pub fn tables(keys: &[u64]) -> Tables {
     let row = Page::new(None, Row::Leaves(leaves));
     let mut root = changed(row, &Change::new(), ENTRIES);
     root.number_new(&mut (0..));
+    let mut register: Vec<Option<u64>> = keys.iter().copied().map(Some).collect();
+    register.resize(keys.len() + free, None);
     let index = Index {
         width: WIDTH,
         most_entries: ENTRIES,
         most_pages: root.pages().len() * 5 / 4 + 1,
         root,
-        register: keys.iter().copied().map(Some).collect(),
+        register,
     };
     Tables::of(&index)
 }

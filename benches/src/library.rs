@@ -16,6 +16,25 @@ pub struct Answer {
 }
 
 extern "C" {
+    fn tag_index_on(
+        index: *mut u8,
+        index_bytes: usize,
+        keys: *mut u64,
+        keys_length: usize,
+        used: *mut u8,
+        used_length: usize,
+        key: u64,
+        record: u32,
+    ) -> Answer;
+    fn tag_index_off(
+        index: *mut u8,
+        index_bytes: usize,
+        keys: *mut u64,
+        keys_length: usize,
+        used: *mut u8,
+        used_length: usize,
+        key: u64,
+    ) -> Answer;
     fn tag_index_find(
         index: *const u8,
         index_bytes: usize,
@@ -47,6 +66,42 @@ pub fn find(tables: &Tables, key: u64) -> Answer {
             keys.as_ptr(),
             keys.len(),
             used.as_ptr(),
+            used.len(),
+            key,
+        )
+    }
+}
+
+/// On.
+pub fn on(tables: &mut Tables, key: u64, record: u32) -> Answer {
+    let Tables { index, keys, used } = tables;
+    // SAFETY: slices with their own lengths, which do not overlap; the
+    // declaration is that of include/tag_index.h.
+    unsafe {
+        tag_index_on(
+            index.as_mut_ptr(),
+            index.len(),
+            keys.as_mut_ptr(),
+            keys.len(),
+            used.as_mut_ptr(),
+            used.len(),
+            key,
+            record,
+        )
+    }
+}
+
+/// Off.
+pub fn off(tables: &mut Tables, key: u64) -> Answer {
+    let Tables { index, keys, used } = tables;
+    // SAFETY: as for on.
+    unsafe {
+        tag_index_off(
+            index.as_mut_ptr(),
+            index.len(),
+            keys.as_mut_ptr(),
+            keys.len(),
+            used.as_mut_ptr(),
             used.len(),
             key,
         )

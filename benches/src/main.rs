@@ -1,16 +1,19 @@
-//! Prints how long check and find take, beside a memcmp of the same bytes and
-//! `BTreeMap::get`. An argument, if given, is the seconds for each herd.
+//! Prints how long check, find, on and off take, beside a memcmp of the same
+//! bytes and `BTreeMap`'s get, insert and remove. An argument, if given, is the
+//! seconds for reading each herd, and as many for changing it.
 
+mod change;
 mod herd;
 mod library;
 mod measure;
+mod rounds;
 
-use measure::{measure, Measures, Median};
+use change::changes;
+use measure::{measure, Measures};
+use rounds::{Beside, Median};
 use std::time::Duration;
 
 const RECORDS: [usize; 4] = [100, 1_000, 4_096, 60_000];
-
-const KEYS: [&str; 2] = ["held key", "other key"];
 
 const METHOD: &str = "\
 Medians over the quarter of the rounds that took least. A round times every measure once, close together, about
@@ -18,10 +21,12 @@ Medians over the quarter of the rounds that took least. A round times every meas
 of the ratios within rounds, and a row that is less check that of the differences; brackets show the interval of
 the median (95 in 100). Such a row is a small difference of large numbers: where the brackets are wide, it is not
 known better than that. Gets run many in a row, with caches and branch prediction to themselves; behind a check, a
-get finds them as a find does.";
+get finds them as a find does. On and off have rounds of their own, on tables with one free record: a key is put on
+and taken off again, each timed alone next to a check of the tables that it gets. Every round starts from the same
+tables. Inserts and removes run 16 in a row.";
 
 /// Prints a row: its name, and a cell for each herd.
-fn row(name: &str, herds: &[Measures], cell: impl Fn(&Measures) -> String) {
+fn row<T>(name: &str, herds: &[T], cell: impl Fn(&T) -> String) {
     let cells = herds.iter().map(|herd| format!("{:>22}", cell(herd)));
     println!("{name:<42}{}", cells.collect::<String>());
 }
@@ -55,19 +60,21 @@ fn print_check(herds: &[Measures]) {
     });
 }
 
-fn print_find(herds: &[Measures], which: usize) {
-    println!("\n{}", KEYS[which]);
-    row("find, us", herds, |m| micros(m.find[which]));
-    row("find less check, ns", herds, |m| nanos(m.above[which]));
-    row("BTreeMap::get, ns", herds, |m| nanos(m.get[which]));
-    row("check and get, less check, ns", herds, |m| {
-        nanos(m.get_behind[which])
+/// Prints a call beside that of the map, with a measure of each herd.
+fn print_call(what: &str, call: &str, of_map: &str, herds: &[&Beside]) {
+    println!("\n{what}");
+    let name = |name: &str| name.replace("CALL", call).replace("MAP", of_map);
+    row(&name("CALL, us"), herds, |m| micros(m.call));
+    row(&name("CALL less check, ns"), herds, |m| nanos(m.above));
+    row(&name("BTreeMap::MAP, ns"), herds, |m| nanos(m.map));
+    row(&name("check and MAP, less check, ns"), herds, |m| {
+        nanos(m.behind)
     });
-    row("find less check / get", herds, |m| {
-        ratio(m.above[which], m.get[which])
+    row(&name("CALL less check / MAP"), herds, |m| {
+        ratio(m.above, m.map)
     });
-    row("find less check / get behind a check", herds, |m| {
-        ratio(m.above[which], m.get_behind[which])
+    row(&name("CALL less check / MAP behind a check"), herds, |m| {
+        ratio(m.above, m.behind)
     });
 }
 
@@ -77,8 +84,20 @@ fn main() {
     let (width, entries) = (herd::WIDTH, herd::ENTRIES);
     println!("W {width}, E {entries}, P a quarter above the pages in use; tags of five countries.");
     println!("{METHOD}\n");
-    let measured = |records| measure(records, Duration::from_secs(seconds));
-    let herds: Vec<Measures> = RECORDS.into_iter().map(measured).collect();
+    let each = Duration::from_secs(seconds);
+    let herds: Vec<Measures> = RECORDS
+        .iter()
+        .map(|&records| measure(records, each))
+        .collect();
+    let changed: Vec<[Beside; 2]> = RECORDS
+        .iter()
+        .map(|&records| changes(records, each))
+        .collect();
     print_check(&herds);
-    (0..KEYS.len()).for_each(|which| print_find(&herds, which));
+    let find = |which: usize| -> Vec<&Beside> { herds.iter().map(|m| &m.find[which]).collect() };
+    print_call("held key", "find", "get", &find(0));
+    print_call("other key", "find", "get", &find(1));
+    let change = |which: usize| -> Vec<&Beside> { changed.iter().map(|m| &m[which]).collect() };
+    print_call("other key put on", "on", "insert", &change(0));
+    print_call("and taken off", "off", "remove", &change(1));
 }

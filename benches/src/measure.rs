@@ -1,40 +1,13 @@
-//! The measures of one herd.
+//! The measures of one herd that is only read.
 
 use crate::herd::{tables, tags};
 use crate::library::{check, find};
+use crate::rounds::{drawn, median, quiet_rounds, time, together, Beside, Median, LOOKED_FOR};
 use model::random::Random;
 use model::table::Tables;
 use std::collections::BTreeMap;
 use std::hint::black_box;
-use std::time::{Duration, Instant};
-
-/// How many keys are looked for before the same come again: too many for the
-/// machine to learn their ways by heart.
-const LOOKED_FOR: usize = 1 << 14;
-
-/// How long the calls timed together take, about: long beside the clock's own
-/// time, short beside the machine's disturbances.
-const TOGETHER_NS: f64 = 20_000.0;
-
-/// A median, and an interval that holds the true median 95 times in 100 if the
-/// rounds do not depend on each other.
-#[derive(Clone, Copy)]
-pub struct Median {
-    pub value: f64,
-    pub low: f64,
-    pub high: f64,
-}
-
-fn median(mut values: Vec<f64>) -> Median {
-    values.sort_unstable_by(f64::total_cmp);
-    let (middle, last) = (values.len() / 2, values.len() - 1);
-    let aside = (values.len() as f64).sqrt().ceil() as usize;
-    Median {
-        value: values[middle],
-        low: values[middle.saturating_sub(aside)],
-        high: values[(middle + aside).min(last)],
-    }
-}
+use std::time::Duration;
 
 /// What was measured of a herd, in nanoseconds a call; of a held key, and of
 /// another.
@@ -46,19 +19,12 @@ pub struct Measures {
     pub check: Median,
     /// Check over memcmp, a ratio.
     pub over_memcmp: Median,
-    pub find: [Median; 2],
-    /// Find less check.
-    pub above: [Median; 2],
-    /// `BTreeMap::get`, many in a row.
-    pub get: [Median; 2],
-    /// Check and a get, less check.
-    pub get_behind: [Median; 2],
+    /// Find beside `BTreeMap::get`.
+    pub find: [Beside; 2],
 }
 
 /// The times of one round.
 struct Round {
-    /// Of the whole round.
-    whole: Duration,
     memcmp: f64,
     check: f64,
     find: [f64; 2],
@@ -82,27 +48,12 @@ struct Bench {
 /// How many gets of the map are timed together.
 const GETS: usize = 256;
 
-/// Nanoseconds of one of so many calls. Each call is given its number, counted
-/// from `first`.
-fn time(first: usize, calls: usize, mut call: impl FnMut(usize)) -> f64 {
-    let start = Instant::now();
-    for number in first..first + calls {
-        call(number);
-    }
-    start.elapsed().as_nanos() as f64 / calls as f64
-}
-
-/// Keys to look for, drawn at random from these.
-fn drawn(random: &mut Random, keys: &[u64]) -> Vec<u64> {
-    (0..LOOKED_FOR).map(|_| *random.pick(keys)).collect()
-}
-
 impl Bench {
     fn new(records: usize) -> Bench {
         let mut random = Random::new(records as u64);
         let mut held = tags(&mut random, 2 * records);
         let others = held.split_off(records);
-        let tables = tables(&held);
+        let tables = tables(&held, 0);
         let mut bench = Bench {
             copy: tables.clone(),
             tables,
@@ -112,7 +63,6 @@ impl Bench {
             compares: 1,
         };
         bench.test();
-        let together = |once: f64| (TOGETHER_NS / once).ceil() as usize;
         bench.calls = together(time(0, 20, |_| bench.check()));
         bench.compares = together(time(0, 20, |_| bench.compare()));
         bench
@@ -165,7 +115,6 @@ impl Bench {
 
     /// One round. Check and what is compared with it come in random order.
     fn round(&self, round: usize) -> Round {
-        let start = Instant::now();
         let memcmp = time(0, self.compares, |_| self.compare());
         let mut kinds = [0, 1, 2, 3, 4];
         Random::new(round as u64).shuffle(&mut kinds);
@@ -182,30 +131,21 @@ impl Bench {
             find: [held, other],
             check_and_get: [get_held, get_other],
             get: [0, 1].map(gets),
-            whole: start.elapsed(),
         }
-    }
-
-    /// Rounds for so long, and of these the quarter that took least, when the
-    /// machine was quiet.
-    fn quiet_rounds(&self, how_long: Duration) -> Vec<Round> {
-        let start = Instant::now();
-        let mut rounds = Vec::new();
-        while start.elapsed() < how_long {
-            rounds.push(self.round(rounds.len()));
-        }
-        rounds.sort_unstable_by_key(|round| round.whole);
-        rounds.truncate(rounds.len().div_ceil(4));
-        rounds
     }
 }
 
 /// Measures a herd of so many records for so long.
 pub fn measure(records: usize, how_long: Duration) -> Measures {
     let bench = Bench::new(records);
-    let rounds = bench.quiet_rounds(how_long);
+    let rounds = quiet_rounds(how_long, |number| bench.round(number));
     let of = |value: &dyn Fn(&Round) -> f64| median(rounds.iter().map(value).collect());
-    let both = |value: fn(&Round, usize) -> f64| [0, 1].map(|which| of(&|r| value(r, which)));
+    let find = |which: usize| Beside {
+        call: of(&|round| round.find[which]),
+        above: of(&|round| round.find[which] - round.check),
+        map: of(&|round| round.get[which]),
+        behind: of(&|round| round.check_and_get[which] - round.check),
+    };
     let Tables { index, keys, used } = &bench.tables;
     Measures {
         records,
@@ -214,9 +154,6 @@ pub fn measure(records: usize, how_long: Duration) -> Measures {
         memcmp: of(&|round| round.memcmp),
         check: of(&|round| round.check),
         over_memcmp: of(&|round| round.check / round.memcmp),
-        find: both(|round, which| round.find[which]),
-        above: both(|round, which| round.find[which] - round.check),
-        get: both(|round, which| round.get[which]),
-        get_behind: both(|round, which| round.check_and_get[which] - round.check),
+        find: [0, 1].map(find),
     }
 }

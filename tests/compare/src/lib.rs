@@ -1,7 +1,11 @@
 //! The proved libraries behind safe functions, in the model's types, and what
 //! the comparisons share.
 
+pub mod beside;
+pub mod calls;
 pub mod list;
+pub mod met;
+pub mod numbers;
 pub mod same;
 pub mod supply;
 pub mod tag_code;

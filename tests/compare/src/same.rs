@@ -1,9 +1,12 @@
 //! Calls made on the proved library and on the model: the same answers, and
 //! the same bytes after. `what` names the tables where they differ.
 
+use crate::beside::beside;
+use crate::met::Met;
 use crate::tag_index;
 use model::answer::Answer;
 use model::calls;
+use model::history::{Call, Outcome};
 use model::table::Tables;
 
 /// Check says what the model says, and changes no byte.
@@ -39,4 +42,19 @@ pub fn format(tables: &Tables, [w, e, p]: [u64; 3], what: &str) -> Answer {
     let kept = answer.number == 0 || after == *tables;
     assert!(kept, "{what}: a refused format {w} {e} {p} changed a byte");
     answer
+}
+
+/// On or off answers as the model and leaves the tables as the model does, page
+/// numbers aside; a refused one leaves every byte as it was.
+pub fn change(tables: &Tables, made: Call, met: &mut Met, what: &str) -> u32 {
+    let mut after = tables.clone();
+    match beside(&mut after, &made, met) {
+        Ok(Outcome::Answered(answer)) => {
+            let kept = answer.number == 0 || after == *tables;
+            assert!(kept, "{what}: a refused {made:?} changed a byte");
+            answer.number
+        }
+        Ok(other) => panic!("{what}: {made:?} gave {other:?}"),
+        Err(how) => panic!("{what}: {made:?}: {how}"),
+    }
 }

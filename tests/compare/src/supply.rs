@@ -1,5 +1,6 @@
 //! Seeds, tables and keys for comparisons.
 
+use model::history::Call;
 use model::random::keys::{key, largest_key, SPREADS};
 use model::random::sound_tables::sound_index;
 use model::random::Random;
@@ -50,5 +51,31 @@ pub fn some_key(random: &mut Random, tables: &Tables) -> u64 {
         8 => random.number(),
         9 => *random.pick(&[0, largest_key(width), u64::MAX]),
         _ => new,
+    }
+}
+
+/// A record for an on: mostly one that is free, else any of the register's, the
+/// first past it, or one far past it.
+pub fn some_record(random: &mut Random, tables: &Tables) -> u64 {
+    let length = tables.used.len();
+    let free: Vec<usize> = (0..length)
+        .filter(|&record| tables.used[record] == 0)
+        .collect();
+    let any = random.below(length.max(1));
+    match random.below(10) {
+        0 => any as u64,
+        1 => length as u64,
+        2 => *random.pick(&[65_534, 65_535, 65_536, (1 << 16) + any as u64, 1 << 31]),
+        _ if free.is_empty() => any as u64,
+        _ => *random.pick(&free) as u64,
+    }
+}
+
+/// An on or an off, as likely as not done on sound tables.
+pub fn some_change(random: &mut Random, tables: &Tables) -> Call {
+    let key = some_key(random, tables);
+    match random.percent(60) {
+        true => Call::On(key, some_record(random, tables)),
+        false => Call::Off(key),
     }
 }

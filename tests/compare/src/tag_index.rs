@@ -36,6 +36,25 @@ extern "C" {
         e: u64,
         p: u64,
     ) -> Answered;
+    fn tag_index_on(
+        index: *mut u8,
+        index_bytes: usize,
+        keys: *mut u64,
+        keys_length: usize,
+        used: *mut u8,
+        used_length: usize,
+        key: u64,
+        record: u32,
+    ) -> Answered;
+    fn tag_index_off(
+        index: *mut u8,
+        index_bytes: usize,
+        keys: *mut u64,
+        keys_length: usize,
+        used: *mut u8,
+        used_length: usize,
+        key: u64,
+    ) -> Answered;
     fn tag_index_find(
         index: *const u8,
         index_bytes: usize,
@@ -74,6 +93,43 @@ pub fn format(tables: &mut Tables, w: u64, e: u64, p: u64) -> Answer {
             w,
             e,
             p,
+        )
+    };
+    answered.answer()
+}
+
+/// On with key and record.
+pub fn on(tables: &mut Tables, key: u64, record: u32) -> Answer {
+    let Tables { index, keys, used } = tables;
+    // SAFETY: as for format.
+    let answered = unsafe {
+        tag_index_on(
+            index.as_mut_ptr(),
+            index.len(),
+            keys.as_mut_ptr(),
+            keys.len(),
+            used.as_mut_ptr(),
+            used.len(),
+            key,
+            record,
+        )
+    };
+    answered.answer()
+}
+
+/// Off with its key.
+pub fn off(tables: &mut Tables, key: u64) -> Answer {
+    let Tables { index, keys, used } = tables;
+    // SAFETY: as for format.
+    let answered = unsafe {
+        tag_index_off(
+            index.as_mut_ptr(),
+            index.len(),
+            keys.as_mut_ptr(),
+            keys.len(),
+            used.as_mut_ptr(),
+            used.len(),
+            key,
         )
     };
     answered.answer()

@@ -1,15 +1,21 @@
 //! Every call on tables of any bytes and any lengths, and format at its limits.
 
+use compare::met::Met;
 use compare::same;
-use compare::supply::{seeds, some_key, sound_tables};
+use compare::supply::{seeds, some_key, some_record, sound_tables};
+use model::history::Call;
 use model::random::Random;
 use model::table::{Tables, HEADER_BYTES, LAYOUT};
 
-/// Check, two finds and a format. Gives whether the format was done.
-fn same_calls(random: &mut Random, tables: &Tables, what: &str) -> bool {
-    same::check(tables, what);
-    for _ in 0..2 {
-        same::find(tables, some_key(random, tables), what);
+/// Check, find, on, off and format. Gives whether the format was done.
+fn same_calls(random: &mut Random, tables: &Tables, met: &mut Met, what: &str) -> bool {
+    let sound = same::check(tables, what);
+    let [found, new, gone] = [0, 1, 2].map(|_| some_key(random, tables));
+    same::find(tables, found, what);
+    let on = Call::On(new, some_record(random, tables));
+    for change in [on, Call::Off(gone)] {
+        let number = same::change(tables, change, met, what);
+        assert_eq!(number == 1, !sound, "{what}: row 1 against check");
     }
     same::format(tables, [8, 2, 2], what).number == 0
 }
@@ -42,13 +48,14 @@ fn random_bytes(random: &mut Random) -> Tables {
 
 #[test]
 fn tables_of_random_bytes() {
-    let mut met = [0, 0];
+    let (mut met, mut calls) = ([0, 0], Met::default());
     for seed in seeds(4_000) {
         let mut random = Random::new(seed);
         let tables = random_bytes(&mut random);
-        let done = same_calls(&mut random, &tables, &format!("seed {seed}"));
+        let done = same_calls(&mut random, &tables, &mut calls, &format!("seed {seed}"));
         met[usize::from(done)] += 1;
     }
+    calls.assert(3_000, &["on 1", "off 1"]);
     assert!(
         met.iter().all(|&times| times >= 100),
         "formats refused, done: {met:?}"
@@ -58,6 +65,7 @@ fn tables_of_random_bytes() {
 #[test]
 fn empty_tables() {
     let full = sound_tables(&mut Random::new(0));
+    let mut met = Met::default();
     for empty in 0..8 {
         let mut tables = full.clone();
         let slices = [empty & 1 != 0, empty & 2 != 0, empty & 4 != 0];
@@ -73,14 +81,15 @@ fn empty_tables() {
         }
         let what = format!("empty index, keys, used: {slices:?}");
         assert_eq!(same::check(&tables, &what), empty == 0, "{what}");
-        same_calls(&mut Random::new(0), &tables, &what);
+        same_calls(&mut Random::new(0), &tables, &mut met, &what);
     }
+    met.assert(7, &["on 1", "off 1"]);
 }
 
 /// Each length up to three off, each alone and with the others.
 #[test]
 fn lengths_that_do_not_agree() {
-    let mut met = [0, 0];
+    let (mut met, mut calls) = ([0, 0], Met::default());
     for seed in seeds(60) {
         let mut random = Random::new(seed);
         let tables = sound_tables(&mut random);
@@ -94,9 +103,11 @@ fn lengths_that_do_not_agree() {
             hurt.used.resize(resized(tables.used.len(), used), 0);
             let what = format!("seed {seed}, lengths {index} {keys} {used} by {by}");
             met[usize::from(same::check(&hurt, &what))] += 1;
-            same_calls(&mut random, &hurt, &what);
+            same_calls(&mut random, &hurt, &mut calls, &what);
         }
     }
+    calls.assert(60, &["on 1", "off 1"]);
+    calls.assert(10, &["on 0", "off 0"]);
     assert!(
         met.iter().all(|&times| times >= 60),
         "unsound, sound: {met:?}"

@@ -1,20 +1,28 @@
-//! Check and find on damaged tables, on tables of any bytes and of any
-//! lengths: the same answers as the model, and no byte changed.
+//! Check, find, on and off on damaged tables: the same answers as the model,
+//! and no byte changed but by an on or off of tables that are sound after all.
 
+use compare::met::Met;
 use compare::same;
-use compare::supply::{seeds, some_key, sound_tables};
+use compare::supply::{seeds, some_key, some_record, sound_tables};
+use model::history::Call;
 use model::random::damage::{damaged, DAMAGES};
 use model::random::sound_tables::sound_index;
 use model::random::Random;
 use model::table::Tables;
 use std::collections::BTreeMap;
 
-/// Check and two finds. Gives whether the tables are sound.
-fn same_reading(random: &mut Random, tables: &Tables, what: &str) -> bool {
+/// Check, find, on and off, the last three each refused by 1 exactly if check
+/// says no. Gives whether the tables are sound.
+fn same_calls(random: &mut Random, tables: &Tables, met: &mut Met, what: &str) -> bool {
     let sound = same::check(tables, what);
-    for _ in 0..2 {
-        let key = some_key(random, tables);
-        let number = same::find(tables, key, what).number;
+    let [found, new, gone] = [0, 1, 2].map(|_| some_key(random, tables));
+    let on = Call::On(new, some_record(random, tables));
+    let numbers = [
+        same::find(tables, found, what).number,
+        same::change(tables, on, met, what),
+        same::change(tables, Call::Off(gone), met, what),
+    ];
+    for number in numbers {
         assert_eq!(number == 1, !sound, "{what}: row 1 against check");
     }
     sound
@@ -23,7 +31,7 @@ fn same_reading(random: &mut Random, tables: &Tables, what: &str) -> bool {
 #[test]
 fn every_kind_of_damage() {
     let mut declined: BTreeMap<String, usize> = BTreeMap::new();
-    let mut still_sound = 0;
+    let (mut still_sound, mut met) = (0, Met::default());
     for seed in seeds(500) {
         let mut random = Random::new(seed);
         let tables = sound_tables(&mut random);
@@ -32,7 +40,7 @@ fn every_kind_of_damage() {
                 continue;
             };
             let what = format!("seed {seed} {damage:?}");
-            match same_reading(&mut random, &hurt, &what) {
+            match same_calls(&mut random, &hurt, &mut met, &what) {
                 true => still_sound += 1,
                 false => *declined.entry(format!("{damage:?}")).or_default() += 1,
             }
@@ -48,13 +56,15 @@ fn every_kind_of_damage() {
         still_sound >= 50,
         "few damages left sound tables: {still_sound}"
     );
+    met.assert(1_000, &["on 1", "off 1"]);
+    met.assert(10, &["on 0", "off 0"]);
 }
 
 /// A damage and then bytes copied about or, where it left sound tables, a second
 /// damage: they may undo or hide each other.
 #[test]
 fn two_damages() {
-    let mut declined = 0;
+    let (mut declined, mut met) = (0, Met::default());
     for seed in seeds(1_500) {
         let mut random = Random::new(seed);
         let tables = sound_tables(&mut random);
@@ -67,7 +77,7 @@ fn two_damages() {
             true => damaged(&mut random, &hurt, damages[1]).unwrap_or(hurt),
             false => bytes_copied(&mut random, hurt),
         };
-        declined += usize::from(!same_reading(&mut random, &again, &what));
+        declined += usize::from(!same_calls(&mut random, &again, &mut met, &what));
     }
     assert!(declined >= 500, "few declined: {declined}");
 }
@@ -86,12 +96,12 @@ fn bytes_copied(random: &mut Random, mut tables: Tables) -> Tables {
 
 #[test]
 fn bytes_copied_about_in_the_index_table() {
-    let mut met = [0, 0];
+    let (mut met, mut calls) = ([0, 0], Met::default());
     for seed in seeds(2_000) {
         let mut random = Random::new(seed);
         let tables = sound_tables(&mut random);
         let hurt = bytes_copied(&mut random, tables);
-        let sound = same_reading(&mut random, &hurt, &format!("seed {seed}"));
+        let sound = same_calls(&mut random, &hurt, &mut calls, &format!("seed {seed}"));
         met[usize::from(sound)] += 1;
     }
     assert!(
@@ -102,7 +112,7 @@ fn bytes_copied_about_in_the_index_table() {
 
 #[test]
 fn every_value_of_every_byte_of_small_tables() {
-    let mut met = [0, 0];
+    let (mut met, mut calls) = ([0, 0], Met::default());
     for seed in seeds(6) {
         let mut random = Random::new(seed);
         let width = random.between(1, 4);
@@ -112,7 +122,8 @@ fn every_value_of_every_byte_of_small_tables() {
                 let mut hurt = tables.clone();
                 hurt.index[place] = byte;
                 let what = format!("seed {seed}, byte {place} to {byte}");
-                met[usize::from(same::check(&hurt, &what))] += 1;
+                let sound = same_calls(&mut random, &hurt, &mut calls, &what);
+                met[usize::from(sound)] += 1;
             }
         }
     }

@@ -1,8 +1,9 @@
 //! List on sound tables, damaged ones, and tables of any bytes and lengths.
 
-use compare::list::{list, same_list};
+use compare::calls::call;
+use compare::list::same_list;
 use compare::supply::{seeds, some_key, sound_tables, width};
-use model::history::{beside_model, call, follow, Call, History, Outcome};
+use model::history::{beside_model, follow, Call, History};
 use model::random::damage::{damaged, DAMAGES};
 use model::random::histories::{history, small_shape};
 use model::random::keys::largest_key;
@@ -156,16 +157,7 @@ fn tables_of_any_bytes_and_lengths() {
     );
 }
 
-fn library_call(tables: &mut Tables, made: &Call) -> Outcome {
-    let Call::List(a, b, slice) = made else {
-        return call(tables, made);
-    };
-    let mut slice = slice.clone();
-    let answer = list(tables, *a, *b, &mut slice);
-    Outcome::Listed(answer, slice)
-}
-
-/// List beside the model's, on tables that the model's on and off leave.
+/// Each call beside the model's on tables of its own, many lists among them.
 #[test]
 fn tables_along_histories() {
     let mut lists = 0;
@@ -175,7 +167,7 @@ fn tables_along_histories() {
         let history = history(&mut random, shape, 80);
         let is_list = |made: &&Call| matches!(made, Call::List(..));
         lists += history.calls.iter().filter(is_list).count();
-        let attempt = |history: &History| follow(history, beside_model(library_call));
+        let attempt = |history: &History| follow(history, beside_model(call));
         must_hold(seed, &history, attempt);
     }
     assert!(lists >= 500, "few lists: {lists}");

@@ -1,8 +1,9 @@
 //! Check and find on sound tables, also on ones that no history makes.
 
+use compare::calls::call;
 use compare::supply::{seeds, some_key, sound_tables};
 use compare::{same, tag_index};
-use model::history::{beside_model, call, follow, Call, History, Outcome};
+use model::history::{beside_model, follow, Call, History};
 use model::random::histories::{history, small_shape};
 use model::random::sound_tables::sound_index;
 use model::random::Random;
@@ -120,18 +121,8 @@ fn tables_at_their_limits() {
     }
 }
 
-/// A call on the library, or on the model if the library does not have it.
-fn library_call(tables: &mut Tables, made: &Call) -> Outcome {
-    match made {
-        Call::Format(w, e, p) => Outcome::Answered(tag_index::format(tables, *w, *e, *p)),
-        Call::Find(key) => Outcome::Answered(tag_index::find(tables, *key)),
-        Call::Check => Outcome::Checked(tag_index::check(tables)),
-        _ => call(tables, made),
-    }
-}
-
-/// Each call of the library beside the model's, on tables that the model's on
-/// and off leave; a check and two finds after each of these.
+/// Each call beside the model's on tables of its own, with a check and two finds
+/// after each on and off.
 #[test]
 fn tables_along_histories() {
     for seed in seeds(150) {
@@ -139,7 +130,7 @@ fn tables_along_histories() {
         let shape = small_shape(&mut random);
         let made = history(&mut random, shape, 40);
         let history = with_reading(&mut random, made);
-        let attempt = |history: &History| follow(history, beside_model(library_call));
+        let attempt = |history: &History| follow(history, beside_model(call));
         must_hold(seed, &history, attempt);
     }
 }

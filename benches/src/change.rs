@@ -1,0 +1,172 @@
+//! The measures of one herd that is changed: keys are put on and taken off again.
+
+use crate::herd::{tables, tags};
+use crate::library::{check, off, on};
+use crate::rounds::{median, quiet_rounds, time, together, Beside, LOOKED_FOR};
+use model::random::Random;
+use model::table::Tables;
+use std::collections::BTreeMap;
+use std::hint::black_box;
+use std::time::Duration;
+
+/// How many inserts of the map are timed together, and then as many removes: few
+/// beside the smallest herd.
+const IN_A_ROW: usize = 16;
+
+/// How often that is done in a round.
+const ROWS: usize = 16;
+
+/// A herd with all that a round works on.
+struct Bench {
+    tables: Tables,
+    /// The tables as they are at the start of each round.
+    copy: Tables,
+    map: BTreeMap<u64, u32>,
+    /// Keys to put on, all different and none held.
+    keys: Vec<u64>,
+    /// The record that is free.
+    free: u32,
+    /// How many pairs of on and off are timed in a round.
+    pairs: usize,
+}
+
+/// The times of one round; of on and insert, and of off and remove.
+#[derive(Default)]
+struct Round {
+    call: [f64; 2],
+    above: [f64; 2],
+    map: [f64; 2],
+    behind: [f64; 2],
+}
+
+/// Nanoseconds of a call.
+fn once(call: impl FnOnce()) -> f64 {
+    let mut call = Some(call);
+    time(0, 1, |_| call.take().into_iter().for_each(|call| call()))
+}
+
+impl Bench {
+    fn new(records: usize) -> Bench {
+        let mut held = tags(&mut Random::new(records as u64), records + LOOKED_FOR);
+        let keys = held.split_off(records);
+        let tables = tables(&held, 1);
+        let mut bench = Bench {
+            copy: tables.clone(),
+            tables,
+            map: held.iter().copied().zip(0..).collect(),
+            keys,
+            free: records as u32,
+            pairs: 1,
+        };
+        bench.test();
+        bench.pairs = together(time(0, 20, |_| bench.check()));
+        bench
+    }
+
+    /// The calls do what they are measured for.
+    fn test(&mut self) {
+        for number in 0..500 {
+            assert!(check(&self.tables), "the tables are sound");
+            let key = self.keys[number];
+            assert_eq!(on(&mut self.tables, key, self.free).number, 0);
+            assert!(check(&self.tables), "the tables are sound with the key");
+            assert_eq!(off(&mut self.tables, key).number, 0);
+            self.restore();
+        }
+    }
+
+    fn key(&self, number: usize) -> u64 {
+        black_box(self.keys[number % LOOKED_FOR])
+    }
+
+    fn check(&self) {
+        black_box(check(black_box(&self.tables)));
+    }
+
+    fn insert(&mut self, key: u64) {
+        black_box(black_box(&mut self.map).insert(key, self.free));
+    }
+
+    fn remove(&mut self, key: u64) {
+        black_box(black_box(&mut self.map).remove(&key));
+    }
+
+    /// Pages that were cut stay so when the key is taken off.
+    fn restore(&mut self) {
+        self.tables.index.copy_from_slice(&self.copy.index);
+        self.tables.keys.copy_from_slice(&self.copy.keys);
+        self.tables.used.copy_from_slice(&self.copy.used);
+    }
+
+    /// A key put on and taken off, each timed next to a check of the tables that
+    /// it gets; and a check with an insert, and with a remove.
+    fn pair(&mut self, key: u64, round: &mut Round) {
+        let without = once(|| self.check());
+        let put_on = once(|| {
+            black_box(on(black_box(&mut self.tables), key, self.free));
+        });
+        let with = once(|| self.check());
+        let taken_off = once(|| {
+            black_box(off(black_box(&mut self.tables), key));
+        });
+        let inserted = once(|| {
+            self.check();
+            self.insert(key);
+        });
+        let removed = once(|| {
+            self.check();
+            self.remove(key);
+        });
+        add(&mut round.call, [put_on, taken_off]);
+        add(&mut round.above, [put_on - without, taken_off - with]);
+        add(&mut round.behind, [inserted - without, removed - without]);
+    }
+
+    /// One round. The tables are first those of the start, and in the caches.
+    fn round(&mut self, number: usize) -> Round {
+        let mut round = Round::default();
+        self.restore();
+        self.check();
+        for pair in 0..self.pairs {
+            self.pair(self.key(number * self.pairs + pair), &mut round);
+        }
+        for row in 0..ROWS {
+            let first = (number * ROWS + row) * IN_A_ROW;
+            let inserted = time(first, IN_A_ROW, |number| self.insert(self.key(number)));
+            let removed = time(first, IN_A_ROW, |number| self.remove(self.key(number)));
+            add(&mut round.map, [inserted, removed]);
+        }
+        let Round {
+            call,
+            above,
+            map,
+            behind,
+        } = round;
+        let each = |sums: [f64; 2], times: usize| sums.map(|sum| sum / times as f64);
+        Round {
+            call: each(call, self.pairs),
+            above: each(above, self.pairs),
+            map: each(map, ROWS),
+            behind: each(behind, self.pairs),
+        }
+    }
+}
+
+fn add(sums: &mut [f64; 2], times: [f64; 2]) {
+    sums.iter_mut()
+        .zip(times)
+        .for_each(|(sum, time)| *sum += time);
+}
+
+/// Measures on and off on a herd of so many records for so long.
+pub fn changes(records: usize, how_long: Duration) -> [Beside; 2] {
+    let mut bench = Bench::new(records);
+    let rounds = quiet_rounds(how_long, |number| bench.round(number));
+    let of = |value: &dyn Fn(&Round) -> f64| median(rounds.iter().map(value).collect());
+    [0, 1].map(|which: usize| Beside {
+        call: of(&|round| round.call[which]),
+        above: of(&|round| round.above[which]),
+        map: of(&|round| round.map[which]),
+        behind: of(&|round| round.behind[which]),
+    })
+}

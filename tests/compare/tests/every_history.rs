@@ -1,0 +1,59 @@
+//! Every history of on and off at small W: each page tree that any of them can
+//! make, changed by each key, beside the model.
+
+use compare::beside::beside;
+use compare::met::{Met, PAGE_CHANGES};
+use compare::tag_index;
+use model::answer::Answer;
+use model::history::{Call, Outcome};
+use model::pages::Page;
+use model::table::{read, Tables};
+use std::collections::HashSet;
+
+fn tree(tables: &Tables) -> Page {
+    read(tables.lent()).root.without_numbers()
+}
+
+/// Puts the key on, or takes it off if it is held. Each key is its own record.
+fn step(tables: &Tables, key: u64, met: &mut Met) -> Tables {
+    let made = match tables.used[key as usize] {
+        1 => Call::Off(key),
+        _ => Call::On(key, key),
+    };
+    let mut next = tables.clone();
+    let outcome = beside(&mut next, &made, met);
+    let done = Ok(Outcome::Answered(Answer::done()));
+    assert_eq!(outcome, done, "{made:?} after {:?}", tree(tables));
+    next
+}
+
+/// Makes every history and gives the number of different page trees.
+fn explore(width: usize, entries: usize, met: &mut Met) -> usize {
+    let (keys, pages) = (1 << width, 40);
+    let mut empty = Tables::zero(entries, pages, keys);
+    let [w, e, p] = [width, entries, pages].map(|number| number as u64);
+    assert_eq!(tag_index::format(&mut empty, w, e, p), Answer::done());
+    let mut trees = HashSet::from([tree(&empty)]);
+    let mut to_do = vec![empty];
+    while let Some(tables) = to_do.pop() {
+        for key in 0..keys as u64 {
+            let next = step(&tables, key, met);
+            if trees.insert(tree(&next)) {
+                to_do.push(next);
+            }
+        }
+    }
+    trees.len()
+}
+
+#[test]
+fn every_history_of_few_bits() {
+    let mut met = Met::default();
+    let cases = [(1, 2), (2, 2), (2, 3), (3, 2), (3, 3), (3, 4), (3, 5)];
+    for (width, entries) in cases {
+        let trees = explore(width, entries, &mut met);
+        assert!(trees >= 1 << (1 << width), "a tree for every herd at least");
+    }
+    met.assert(10, &PAGE_CHANGES);
+    met.assert_only(&[&["on 0", "off 0"], &PAGE_CHANGES[..]].concat());
+}
