@@ -12,12 +12,12 @@ use Rattle.tag_index.specs.Format.{FormatDoes}
 use Rattle.tag_index.specs.Changing.{OnDoes, OffDoes}
 use Rattle.tag_index.specs.Reading.{FindDoes, ListDoes}
 use Rattle.tag_index.specs.Histories.{Tables, Call, format, on, off, find, list, check, Reply, answered, sliced, said, OrderedMap, sizesOf, Feed, feedOf, formats as fits, emptyMap, mapBehind}
-use Rattle.tag_index.proofs.format.format.Reads as format-reads
-use Rattle.tag_index.proofs.change.on.Reads as on-reads
-use Rattle.tag_index.proofs.change.off.Reads as off-reads
-use Rattle.tag_index.proofs.read.find.Reads as find-reads
-use Rattle.tag_index.proofs.read.list.Reads as list-reads
-use Rattle.tag_index.proofs.read.check.Reads as check-reads
+use Rattle.tag_index.proofs.c.tag_index_format.Reads as format-reads
+use Rattle.tag_index.proofs.c.tag_index_on.Reads as on-reads
+use Rattle.tag_index.proofs.c.tag_index_off.Reads as off-reads
+use Rattle.tag_index.proofs.c.tag_index_find.Reads as find-reads
+use Rattle.tag_index.proofs.c.tag_index_list.Reads as list-reads
+use Rattle.tag_index.proofs.c.tag_index_check.Reads as check-reads
 
 -- Three slices that are lent, and hold the tables.
 pub record Lent (t : Tables) : Type 0 where
