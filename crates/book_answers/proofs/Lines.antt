@@ -113,6 +113,12 @@ length-end false = omega arith
 
 -- ---- a line
 
+-- Records that are small one by one are so together.
+pub record-numbers : (rs : List ℕ) (count : ℕ) → ((k : ℕ) → k < count → getD rs k 0 ≤ 65535) → RecordNumbers (take count rs)
+record-numbers rs zero h = tt
+record-numbers [] (suc count) h = tt
+record-numbers (r ∷ rs) (suc count) h = (h 0 (omega arith), record-numbers rs count (λ k g. h (suc k) (omega arith)))
+
 -- A record takes at most six bytes.
 length-fields : (rs : List ℕ) → RecordNumbers rs → length (fieldsOf rs) ≤ 6 * length rs
 unfolding fieldsOf

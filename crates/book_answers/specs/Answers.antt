@@ -1,8 +1,7 @@
 -- The line that the day book prints for a line that it read (01, "Day-book program"). Assumes nothing.
-use mathlib.Core.Bool.{Bool, true, false, cond}
+use mathlib.Core.Bool.{Bool, true, false}
 use mathlib.Core.List.{List, [], _∷_, _++_}
 use Prim.Native.Nat.{ℕ, zero, suc, _+_, _*_, _-_, _/_, _%_, _≤_}
-use lib.Dec.{ltb}
 
 -- The bytes that a line is made of.
 abbrev pub tab : ℕ
@@ -18,14 +17,15 @@ plus = 43
 abbrev pub digit : ℕ → ℕ
 digit d = 48 + d
 
--- The decimal digits of n, found in at most so many steps from the last.
+-- The decimal digits of n, and none for 0, found from the last in so many steps.
 unfoldable pub digitsWithin : ℕ → ℕ → List ℕ
-digitsWithin zero n = digit n ∷ []
-digitsWithin (suc steps) n = cond (ltb n 10) (digit n ∷ []) (digitsWithin steps (n / 10) ++ (digit (n % 10) ∷ []))
+digitsWithin zero n = []
+digitsWithin (suc steps) zero = []
+digitsWithin (suc steps) (suc n) = digitsWithin steps (suc n / 10) ++ (digit (suc n % 10) ∷ [])
 
--- A number in decimal: no leading zeros, and 0 is `0`. (n steps are enough: each divides by ten.)
+-- A number in decimal: the digits of a tenth of it, none for 0, and its last digit. (n steps are enough: each divides by ten.)
 unfoldable pub decimal : ℕ → List ℕ
-decimal n = digitsWithin n n
+decimal n = digitsWithin n (n / 10) ++ (digit (n % 10) ∷ [])
 
 -- The number that decimal digits say, after the number a.
 unfoldable pub valueAfter : ℕ → List ℕ → ℕ
