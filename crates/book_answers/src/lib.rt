@@ -5,6 +5,10 @@ ghost use lib.ListN.{length, take};
 ghost use Rattle.book_answers.specs.Answers.{decimal, field, fieldsOf, endOf};
 ghost use Rattle.book_answers.specs.Writing.{Wrote, RoomForRecords, Writable, AnswerWritten};
 
+const TAB: u8 = b'\t';
+
+const NEWLINE: u8 = b'\n';
+
 fn wide(n: u32) -> u64
     ensures { λ r. ⌜ r ≡ n ⌝ }
 {
@@ -30,7 +34,7 @@ pub fn write_field(out: &mut [u8], at: usize, n: u64) -> usize
     requires { ⌜ at + length (field n) ≤ length (now out) ⌝ }
     ensures { λ r. ⌜ Wrote (now (out .entry)) at (field n) (now (out .exit)) r ⌝ }
 {
-    out[at] = b'\t';
+    out[at] = TAB;
     write_number(out, at + 1, n)
 }
 
@@ -54,12 +58,12 @@ fn write_end(out: &mut [u8], at: usize, more: bool) -> usize
     ensures { λ r. ⌜ Wrote (now (out .entry)) at (endOf more) (now (out .exit)) r ⌝ }
 {
     if more {
-        out[at] = b'\t';
+        out[at] = TAB;
         out[at + 1] = b'+';
-        out[at + 2] = b'\n';
+        out[at + 2] = NEWLINE;
         return at + 3;
     }
-    out[at] = b'\n';
+    out[at] = NEWLINE;
     at + 1
 }
 
