@@ -1,8 +1,7 @@
 -- The five lines that 01's example prints, gathered as rows under one theorem, and a few numbers. Assumes nothing.
 use mathlib.Core.Path.{_≡_, refl}
 use mathlib.Core.Bool.{true, false}
-use mathlib.Core.List.{List, [], _∷_}
-use Prim.Native.Nat.{ℕ}
+use mathlib.Core.List.{[], _∷_}
 use Rattle.book_answers.specs.Answers.{digitsWithin, decimal, field, fieldsOf, endOf, answerLine}
 
 -- 01, "Day-book program", its output. In bytes: a tab is 9, a newline 10, the digit 0 is 48.

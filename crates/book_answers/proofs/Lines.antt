@@ -5,7 +5,7 @@ use mathlib.Core.List.{List, [], _∷_, _++_, append-nil, append-assoc}
 use Prim.Native.Nat.{ℕ, zero, suc, _+_, _*_, _/_, _%_, _^_, _≤_, _<_}
 use native.Mathlib.Omega.{arith}
 use native.Mathlib.Numerals.{add-one, add-two}
-use lib.ListN.{length, getD, take, drop, set, length-append, length-take}
+use lib.ListN.{length, getD, take, set, length-append, length-take}
 use lib.Seq.{take-suc}
 use Rattle.book_answers.specs.Answers.{digit, decimal, field, fieldsOf, endOf, answerLine}
 use Rattle.book_answers.specs.Writing.{over, Wrote, RecordNumbers, RoomForRecords, Writable, AnswerWritten}

@@ -1,8 +1,6 @@
 -- The measure is the number: a tenth of it is less. Assumes nothing.
 use borrow.Author.Needs.{needs}
 use native.Mathlib.Omega.{arith}
-use lib.ListN.{length-set}
-use mathlib.Core.Path.{_∙_}
 use Rattle.book_answers.proofs.Writing.{wrote-long}
 use Rattle.book_answers.proofs.Lines.{length-one, length-more, number-one, number-more}
 use Prim.Native.Nat.{ℕ, _<_}
@@ -45,7 +43,7 @@ write-number-slice-write-out : (t : ℕ) → write-number-lts.Need-slice-write-o
   write-number-below t,
   write-number.Post,
 ) (write-number-at t) write-number.Post
-write-number-slice-write-out t c = omega (arith, length-one _ (c .if1 .taken))
+write-number-slice-write-out t c = omega (arith, length-one (c .before .before .args .n) (omega arith))
 
 write-number-add-result : (t : ℕ) → write-number-lts.Need-add-result (
   write-number-below t,
@@ -63,13 +61,13 @@ write-number-returns : (t : ℕ) → write-number-lts.Need-returns (
   write-number-below t,
   write-number.Post,
 ) (write-number-at t) write-number.Post
-write-number-returns t c = number-one _ _ _ (c .if1 .taken)
+write-number-returns t c = number-one _ _ (c .before .before .args .n) (omega arith)
 
 write-number-write-number-requires : (t : ℕ) → write-number-lts.Need-write-number-requires (
   write-number-below t,
   write-number.Post,
 ) (write-number-at t) write-number.Post
-write-number-write-number-requires t c κs = (omega (arith, c .before .before .before .pre .0), omega (arith, c .before .before .before .pre .1, length-more _ (c .before .if1 .left)))
+write-number-write-number-requires t c κs = (omega (arith, c .before .before .before .pre .0), omega (arith, c .before .before .before .pre .1, length-more (c .before .before .before .args .n) (omega arith)))
 
 write-number-cast-out-2 : (t : ℕ) → write-number-lts.Need-cast-out-2 (
   write-number-below t,
@@ -87,13 +85,13 @@ write-number-slice-write-out-2 : (t : ℕ) → write-number-lts.Need-slice-write
   write-number-below t,
   write-number.Post,
 ) (write-number-at t) write-number.Post
-write-number-slice-write-out-2 t c = omega (arith, c .before .before .before .before .before .before .pre .1, length-more _ (c .before .before .before .before .if1 .left), c .before .before .write-number .ensures .ends, wrote-long (c .before .before .write-number .ensures))
+write-number-slice-write-out-2 t c = omega (arith, c .before .before .before .before .before .before .pre .1, length-more (c .before .before .before .before .before .before .args .n) (omega arith), c .before .before .write-number .ensures .ends, wrote-long (c .before .before .write-number .ensures))
 
 write-number-add-result-2 : (t : ℕ) → write-number-lts.Need-add-result-2 (
   write-number-below t,
   write-number.Post,
 ) (write-number-at t) write-number.Post
-write-number-add-result-2 t c = omega (arith, c .before .before .before .before .before .before .pre .1, length-more _ (c .before .before .before .before .if1 .left), c .before .before .write-number .ensures .ends)
+write-number-add-result-2 t c = omega (arith, c .before .before .before .before .before .before .pre .1, length-more (c .before .before .before .before .before .before .args .n) (omega arith), c .before .before .write-number .ensures .ends)
 
 write-number-same-length-2 : (t : ℕ) → write-number-lts.Need-same-length-2 (
   write-number-below t,
@@ -105,7 +103,7 @@ write-number-returns-2 : (t : ℕ) → write-number-lts.Need-returns-2 (
   write-number-below t,
   write-number.Post,
 ) (write-number-at t) write-number.Post
-write-number-returns-2 t c = number-more _ (c .before .before .before .before .if1 .left) (c .before .before .write-number .ensures)
+write-number-returns-2 t c = number-more (c .before .before .before .before .before .before .args .n) (omega arith) (c .before .before .write-number .ensures)
 
 pub +write-number-spec : {M : Type 1} → statement M
 +write-number-spec = close μ-write-number λ t. write-number-lts.spec (
