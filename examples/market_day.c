@@ -24,7 +24,8 @@ int main(void) {
         printf("on 18, record 5: the record is in use\n");
     printf("find 17: record %u\n", tag_index_find(TABLES, tag(826, 17)).record);
 
-    struct tag_index_answer listed = tag_index_list(TABLES, tag(826, 0), tag(826, TAG_CODE_MAX_NATIONAL), out, 32);
+    uint64_t first = tag(826, 0), last = tag(826, TAG_CODE_MAX_NATIONAL);
+    struct tag_index_answer listed = tag_index_list(TABLES, first, last, out, 32);
     printf("list country 826:");
     for (uint64_t i = 0; i < listed.count; i++)
         printf(" %u", out[i]);

@@ -5,9 +5,10 @@
    each record. Every slice is a pointer and its length in elements. A pointer
    is never null, even where the length is 0; slices lent to one call do not
    overlap. The library keeps no memory of its own and no pointer: it works in
-   the tables and on the stack (above 65536 bytes of it in every call but
-   format) alone. Calls on different tables may run at the same time, and so
-   may calls of find, list and check on the same tables.
+   the tables and on the stack alone. Calls on different tables may run at the
+   same time, and so may calls of find, list and check on the same tables.
+   Measured on x86-64, find, list and check took up to 73000 bytes of stack, on
+   and off up to 168000 (root level 15): leave a thread 256 KiB.
 
    The two slices of a register have one length. If they have not, format
    answers 9, check false, and every other call 1. A key of W bits is a number
