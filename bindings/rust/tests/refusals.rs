@@ -243,3 +243,43 @@ fn threads() {
         }
     });
 }
+
+/// 256 KiB of stack are enough, under a root at level 15 too.
+#[test]
+fn small_stack() {
+    let day = || {
+        let mut index = index(16, 2, 6_000, 200);
+        let mut high = 0;
+        assert_eq!(index.on(0xfffe, 0), Ok(()));
+        assert_eq!(index.on(0xffff, 1), Ok(()));
+        let mut number = 1u32;
+        for turn in 0..1_000 {
+            number = number.wrapping_mul(1_664_525).wrapping_add(1_013_904_223);
+            let record = 2 + turn % 198;
+            if index.tables().used[record] == 1 {
+                assert_eq!(index.off(index.tables().keys[record]), Ok(()));
+            }
+            let key = u64::from(number >> 16) | if turn % 4 == 0 { 0xfff0 } else { 0 };
+            let put = index.on(key, record as u32);
+            assert!(matches!(put, Ok(()) | Err(Refusal::KeyHeld)), "{put:?}");
+            high += u32::from(root_level(&index) == 15);
+        }
+        assert_eq!(index.list_all(0xfffe, 0xffff), Ok(vec![0, 1]));
+        assert_eq!(high, 1_000);
+        assert_eq!(index.off(0xffff), Ok(()));
+        assert_eq!(index.off(0xfffe), Ok(()));
+        assert!(index.check());
+    };
+    let thread = std::thread::Builder::new()
+        .stack_size(256 * 1024)
+        .spawn(day);
+    thread.expect("a thread").join().expect("a whole day");
+}
+
+/// The level of the root page: header bytes 4 and 5 have its number, and its first
+/// byte its level.
+fn root_level(index: &TagIndex) -> u8 {
+    let bytes = &index.tables().index;
+    let root = usize::from(u16::from_be_bytes([bytes[4], bytes[5]]));
+    bytes[16 + root * (2 + 3 * usize::from(bytes[1]))]
+}
