@@ -1,3 +1,4 @@
 pub mod FieldLaws
 pub mod NumberLaws
 pub mod TagLaws
+pub mod LineLaws

@@ -5,7 +5,6 @@ mod tags;
 
 ghost use mathlib.Core.Path.{_≡_};
 ghost use Rattle.book_lines.specs.Lines.{meaning, twoFields, threeFields, onLine, offLine, findLine, listLine, recordAtMost};
-
 use digits::Number;
 use tags::Tag;
 
@@ -28,7 +27,10 @@ fn on_line(tag: Tag, written: Number) -> Said
         return Said::Bad;
     };
     match tag {
-        Tag::Key(key) => Said::On { key, record: number as u32 },
+        Tag::Key(key) => Said::On {
+            key,
+            record: number as u32,
+        },
         Tag::OutOfRange => Said::OutOfRange,
         Tag::Malformed => Said::Bad,
     }
@@ -112,14 +114,14 @@ pub fn read_line(line: &[u8]) -> Said
     if end == line.len() {
         return Said::Bad;
     }
-    let verb = &line[0..end];
-    let rest = &line[end + 1..];
+    let verb = fields::first_bytes(line, end);
+    let rest = fields::bytes_after(line, end + 1);
     let middle = fields::field_end(rest);
     if middle == rest.len() {
         return two_fields(verb, rest);
     }
-    let second = &rest[0..middle];
-    let third = &rest[middle + 1..];
+    let second = fields::first_bytes(rest, middle);
+    let third = fields::bytes_after(rest, middle + 1);
     let last = fields::field_end(third);
     if last == third.len() {
         return three_fields(verb, second, third);

@@ -1,9 +1,13 @@
 // Tags and records of a line.
 ghost use mathlib.Core.Path.{_≡_};
 ghost use Rattle.book_lines.specs.Lines.{tagOf, decimalTag, hexadecimalTag, recordOf};
-
-use super::digits::{read_number, Number};
-use tag_code::{pack, unpack, TagFields};
+use super::digits::Number;
+use super::digits::read_number;
+use super::fields::bytes_after;
+use super::fields::first_bytes;
+use tag_code::TagFields;
+use tag_code::pack;
+use tag_code::unpack;
 
 // What a field that should be a tag writes.
 pub enum Tag {
@@ -58,7 +62,10 @@ pub fn read_tag(field: &[u8]) -> Tag
     ensures { λ r. ⌜ r ≡ tagOf (now (field .entry)) ⌝ }
 {
     if field.len() == 15 {
-        return decimal_tag(read_number(&field[0..3], 10), read_number(&field[3..15], 10));
+        return decimal_tag(
+            read_number(first_bytes(field, 3), 10),
+            read_number(bytes_after(field, 3), 10),
+        );
     }
     if field.len() != 17 {
         return Tag::Malformed;
@@ -66,7 +73,7 @@ pub fn read_tag(field: &[u8]) -> Tag
     if field[0] != b'h' {
         return Tag::Malformed;
     }
-    hexadecimal_tag(read_number(&field[1..17], 16))
+    hexadecimal_tag(read_number(bytes_after(field, 1), 16))
 }
 
 // The record that a field writes: 1 to 5 decimal digits.

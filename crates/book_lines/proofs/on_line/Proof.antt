@@ -20,7 +20,7 @@ enum-known-tag : tie.Need-enum-known-tag
 enum-known-tag c = search needs
 
 cast-t6 : tie.Need-cast-t6
-cast-t6 c = 
+cast-t6 c =
     omega (arith, subst (λ (w : Number). recordAtMost 99999 w) (c .before .before .before .before .written .given .1) (c .before .before .before .before .before .before .pre))
 
 enum-told-2 : tie.Need-enum-told-2

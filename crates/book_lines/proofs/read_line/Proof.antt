@@ -1,107 +1,66 @@
+-- The line is cut at its tabs, field by field. Assumes nothing.
+use mathlib.Core.Path.{sym, ap, ap₂, subst, _∙_}
+use native.Mathlib.Omega.{arith}
+use Rattle.book_lines.proofs.LineLaws.{says-long, says-one, says-two, says-three, says-more}
 use borrow.Author.Needs.{needs}
 use Rattle.book_lines.proofs.read_line.Statement.{statement}
 use Rattle.book_lines.proofs.read_line.Tie as tie
-use Rattle.book_lines.proofs.read_line.Reads as reads
-use Rattle.book_lines.proofs.read_line.Lts as lts
-use Rattle.book_lines.proofs.fields.field_end.Reads as field-end-reads
-use Rattle.book_lines.proofs.three_fields.Reads as three-fields-reads
-use Rattle.book_lines.proofs.two_fields.Reads as two-fields-reads
 
--- src/lib.rt:109:9
 returns : tie.Need-returns
-returns c = ?
+returns c = sym (says-long _ (c .if1 .taken))
 
--- src/lib.rt:111:9
 field-end-requires : tie.Need-field-end-requires
 field-end-requires c κs = search needs
 
--- src/lib.rt:113:9
 returns-2 : tie.Need-returns-2
-returns-2 c = ?
+returns-2 c = sym (says-one _ (c .before .before .if1 .left) _ (c .before .field-end .ensures) (c .if2 .taken))
 
--- src/lib.rt:115:16
-sub-verb : tie.Need-sub-verb
-sub-verb c = search needs
+first-bytes-requires : tie.Need-first-bytes-requires
+first-bytes-requires c κs = search needs
 
--- src/lib.rt:115:16
-part-verb-start : tie.Need-part-verb-start
-part-verb-start c = search needs
+add-bytes-after : tie.Need-add-bytes-after
+add-bytes-after c = search needs
 
--- src/lib.rt:115:16
-part-verb-end : tie.Need-part-verb-end
-part-verb-end c = search needs
+bytes-after-requires : tie.Need-bytes-after-requires
+bytes-after-requires c κs = search needs
 
--- src/lib.rt:116:22
-add-rest : tie.Need-add-rest
-add-rest c = search needs
-
--- src/lib.rt:116:16
-sub-rest : tie.Need-sub-rest
-sub-rest c = search needs
-
--- src/lib.rt:116:16
-part-rest-start : tie.Need-part-rest-start
-part-rest-start c = search needs
-
--- src/lib.rt:116:16
-part-rest-end : tie.Need-part-rest-end
-part-rest-end c = search needs
-
--- src/lib.rt:117:9
 field-end-requires-2 : tie.Need-field-end-requires-2
 field-end-requires-2 c κs = search needs
 
--- src/lib.rt:119:9
 two-fields-requires : tie.Need-two-fields-requires
 two-fields-requires c κs = search needs
 
--- src/lib.rt:119:9
 returns-3 : tie.Need-returns-3
-returns-3 c = ?
+returns-3 c =
+    c .two-fields .ensures
+    ∙ sym
+    (says-two _ (c .before .before .before .before .before .before .before .if1 .left) _ (c .before .before .before .before .before .before .field-end .ensures) (c .before .before .before .before .before .if2 .left) _ _ (c .before .before .before .before .first-bytes .ensures) (c .before .before .before .bytes-after .ensures) _ (c .before .before .field-end2 .ensures) (c .before .if3 .taken))
 
--- src/lib.rt:121:18
-sub-second : tie.Need-sub-second
-sub-second c = search needs
+first-bytes-requires-2 : tie.Need-first-bytes-requires-2
+first-bytes-requires-2 c κs = search needs
 
--- src/lib.rt:121:18
-part-second-start : tie.Need-part-second-start
-part-second-start c = search needs
+add-bytes-after-2 : tie.Need-add-bytes-after-2
+add-bytes-after-2 c = search needs
 
--- src/lib.rt:121:18
-part-second-end : tie.Need-part-second-end
-part-second-end c = search needs
+bytes-after-requires-2 : tie.Need-bytes-after-requires-2
+bytes-after-requires-2 c κs = search needs
 
--- src/lib.rt:122:23
-add-third : tie.Need-add-third
-add-third c = search needs
-
--- src/lib.rt:122:17
-sub-third : tie.Need-sub-third
-sub-third c = search needs
-
--- src/lib.rt:122:17
-part-third-start : tie.Need-part-third-start
-part-third-start c = search needs
-
--- src/lib.rt:122:17
-part-third-end : tie.Need-part-third-end
-part-third-end c = search needs
-
--- src/lib.rt:123:9
 field-end-requires-3 : tie.Need-field-end-requires-3
 field-end-requires-3 c κs = search needs
 
--- src/lib.rt:125:9
 three-fields-requires : tie.Need-three-fields-requires
 three-fields-requires c κs = search needs
 
--- src/lib.rt:125:9
 returns-4 : tie.Need-returns-4
-returns-4 c = ?
+returns-4 c =
+    c .three-fields .ensures
+    ∙ sym
+    (says-three _ (c .before .before .before .before .before .before .before .before .before .before .before .if1 .left) _ (c .before .before .before .before .before .before .before .before .before .before .field-end .ensures) (c .before .before .before .before .before .before .before .before .before .if2 .left) _ _ (c .before .before .before .before .before .before .before .before .first-bytes .ensures) (c .before .before .before .before .before .before .before .bytes-after .ensures) _ (c .before .before .before .before .before .before .field-end2 .ensures) (c .before .before .before .before .before .if3 .left) _ _ (c .before .before .before .before .first-bytes2 .ensures) (c .before .before .before .bytes-after2 .ensures) _ (c .before .before .field-end3 .ensures) (c .before .if4 .taken))
 
--- src/lib.rt:105:1
 returns-5 : tie.Need-returns-5
-returns-5 c = ?
+returns-5 c =
+    sym
+    (says-more _ (c .before .before .before .before .before .before .before .before .before .before .if1 .left) _ (c .before .before .before .before .before .before .before .before .before .field-end .ensures) (c .before .before .before .before .before .before .before .before .if2 .left) _ _ (c .before .before .before .before .before .before .before .first-bytes .ensures) (c .before .before .before .before .before .before .bytes-after .ensures) _ (c .before .before .before .before .before .field-end2 .ensures) (c .before .before .before .before .if3 .left) _ _ (c .before .before .before .first-bytes2 .ensures) (c .before .before .bytes-after2 .ensures) _ (c .before .field-end3 .ensures) (c .if4 .left))
 
 pub read-line-spec : {M : Type 1} → statement M
 read-line-spec =
@@ -110,23 +69,15 @@ read-line-spec =
     returns
     field-end-requires
     returns-2
-    sub-verb
-    part-verb-start
-    part-verb-end
-    add-rest
-    sub-rest
-    part-rest-start
-    part-rest-end
+    first-bytes-requires
+    add-bytes-after
+    bytes-after-requires
     field-end-requires-2
     two-fields-requires
     returns-3
-    sub-second
-    part-second-start
-    part-second-end
-    add-third
-    sub-third
-    part-third-start
-    part-third-end
+    first-bytes-requires-2
+    add-bytes-after-2
+    bytes-after-requires-2
     field-end-requires-3
     three-fields-requires
     returns-4

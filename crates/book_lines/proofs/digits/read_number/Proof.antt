@@ -26,19 +26,19 @@ digit-requires : tie.Need-digit-requires Inv-loop μ-loop
 digit-requires c κs = search needs
 
 returns : tie.Need-returns Inv-loop μ-loop
-returns c = 
+returns c =
     let at = c .before .before .before .before .loop in
     let start = c .before .before .before .before .before .before in
     sym (number-none _ (at .value) (start .args .digits .now) (at .i) (c .before .digit .ensures) (omega arith) (c .if1 .taken)) ∙ at .inv .2
 
 mul-value : tie.Need-mul-value Inv-loop μ-loop
-mul-value c = 
+mul-value c =
     let at = c .before .before .before .before .loop in
     let start = c .before .before .before .before .before .before in
     omega (arith, digit-fits (start .args .base) (at .value) (c .before .digit .result) (at .i) (omega arith) (omega arith) (at .inv .1) (omega arith))
 
 add-value : tie.Need-add-value Inv-loop μ-loop
-add-value c = 
+add-value c =
     let at = c .before .before .before .before .loop in
     let start = c .before .before .before .before .before .before in
     omega (arith, digit-fits (start .args .base) (at .value) (c .before .digit .result) (at .i) (omega arith) (omega arith) (at .inv .1) (omega arith))
@@ -50,10 +50,9 @@ loop-less : tie.Need-loop-less Inv-loop μ-loop
 loop-less c = search needs
 
 loop-again : tie.Need-loop-again Inv-loop μ-loop
-loop-again c = 
+loop-again c =
     let at = c .before .before .before .before .loop in
-    let start = c .before .before .before .before .before .before in
-    (
+    let start = c .before .before .before .before .before .before in (
       omega arith,
       rw (add-one (at .i)) (digit-grows (start .args .base) (at .value) (c .before .digit .result) (at .i) (omega arith) (at .inv .1) (omega arith)),
       sym (number-more (start .args .base) (at .value) (start .args .digits .now) (at .i) (c .before .digit .ensures) (omega arith) (omega arith)) ∙ at .inv .2,

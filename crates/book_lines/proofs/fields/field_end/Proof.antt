@@ -22,7 +22,9 @@ shared-slice-read-if1 : tie.Need-shared-slice-read-if1 Inv-loop μ-loop
 shared-slice-read-if1 c = search needs
 
 returns : tie.Need-returns Inv-loop μ-loop
-returns c = omega (arith, field-tab (c .before .before .before .before .args .bytes .now) (c .before .before .before .loop .i) (omega arith) (c .if1 .taken))
+returns c =
+    let line = c .before .before .before .before .args .bytes .now in
+    record { counted = omega (arith, field-tab line (c .before .before .before .loop .i) (omega arith) (c .if1 .taken)); within = omega arith }
 
 add-i : tie.Need-add-i Inv-loop μ-loop
 add-i c = search needs
@@ -34,7 +36,9 @@ loop-again : tie.Need-loop-again Inv-loop μ-loop
 loop-again c = (omega arith, omega (arith, field-more (c .before .before .before .before .args .bytes .now) (c .before .before .before .loop .i) (omega arith) (c .if1 .left)))
 
 returns-2 : tie.Need-returns-2 Inv-loop μ-loop
-returns-2 c = omega (arith, field-none (c .before .before .args .bytes .now) (c .before .loop .i) (omega arith))
+returns-2 c =
+    let line = c .before .before .args .bytes .now in
+    record { counted = omega (arith, field-none line (c .before .loop .i) (omega arith)); within = omega arith }
 
 pub field-end-spec : {M : Type 1} → statement M
 field-end-spec =
