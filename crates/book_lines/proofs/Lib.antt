@@ -2,3 +2,4 @@ pub mod FieldLaws
 pub mod NumberLaws
 pub mod TagLaws
 pub mod LineLaws
+pub mod Examples
