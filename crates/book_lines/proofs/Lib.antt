@@ -3,3 +3,4 @@ pub mod NumberLaws
 pub mod TagLaws
 pub mod LineLaws
 pub mod Examples
+pub mod Written

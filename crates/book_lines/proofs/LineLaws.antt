@@ -1,8 +1,8 @@
 -- What lines say, by their fields; what a function has found so far is given. Assumes nothing.
-use mathlib.Core.Path.{_≡_, refl, sym, ap, ap₂, _∙_}
+use mathlib.Core.Path.{_≡_, refl, sym, ap, _∙_}
 use mathlib.Core.Bool.{Bool, true, false, cond}
 use mathlib.Core.List.{List, [], _∷_}
-use Prim.Native.Nat.{ℕ, suc, _+_, _≤_, _<_}
+use Prim.Native.Nat.{ℕ, _+_, _≤_, _<_}
 use native.Mathlib.Omega.{arith}
 use native.Mathlib.Numerals.{add-one}
 use lib.Dec.{eqb}
@@ -10,8 +10,6 @@ use lib.ListN.{length, take, drop}
 use borrow.Author.Tests.{le-leb, lt-leb}
 use Rattle.book_lines.specs.declared.Said.{Said}
 use Rattle.book_lines.specs.declared.Said.the-variants as said
-use Rattle.book_lines.specs.declared.digits.Number.{Number}
-use Rattle.book_lines.specs.declared.tags.Tag.{Tag}
 use Rattle.book_lines.specs.Fields.{tab, inFront, cutAtTabs, fieldLength, FieldEnd}
 use Rattle.book_lines.specs.Lines.{
   sameBytes,
@@ -97,7 +95,7 @@ pub says-long : (line : List ℕ) → 80 < length line → meaning line ≡ said
 unfolding meaning
 says-long line h = rw (lt-leb (length line) 80 h)
 
-short-says : (line : List ℕ) → length line ≤ 80 → meaning line ≡ fieldsSay (cutAtTabs line)
+pub short-says : (line : List ℕ) → length line ≤ 80 → meaning line ≡ fieldsSay (cutAtTabs line)
 unfolding meaning
 short-says line h = rw (le-leb (length line) 80 h)
 

@@ -5,7 +5,6 @@ use Prim.Native.Nat.{ℕ, _+_, _*_, _-_, _≤_}
 use lib.Dec.{eqb, ltb, leb}
 use lib.ListN.{length, take, drop, getD}
 use Rattle.tag_code.specs.declared.TagFields.{TagFields}
-use Rattle.tag_code.specs.declared.Packed.{Packed}
 use Rattle.tag_code.specs.TagCode.{packed, unpacked}
 use Rattle.book_lines.specs.declared.Said.{Said}
 use Rattle.book_lines.specs.declared.Said.the-variants as said

@@ -1,5 +1,5 @@
 -- Each arm is a clause of the definition. Assumes nothing.
-use mathlib.Core.Path.{sym, ap, ap₂}
+use mathlib.Core.Path.{sym, ap₂}
 use Rattle.book_lines.specs.Lines.{listLine}
 use borrow.Author.Needs.{needs}
 use Rattle.book_lines.proofs.list_line.Statement.{statement}

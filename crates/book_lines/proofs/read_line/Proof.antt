@@ -1,6 +1,5 @@
 -- The line is cut at its tabs, field by field. Assumes nothing.
-use mathlib.Core.Path.{sym, ap, ap₂, subst, _∙_}
-use native.Mathlib.Omega.{arith}
+use mathlib.Core.Path.{sym, _∙_}
 use Rattle.book_lines.proofs.LineLaws.{says-long, says-one, says-two, says-three, says-more}
 use borrow.Author.Needs.{needs}
 use Rattle.book_lines.proofs.read_line.Statement.{statement}

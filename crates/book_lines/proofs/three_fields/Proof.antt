@@ -1,5 +1,5 @@
 -- The verb decides. Assumes nothing.
-use mathlib.Core.Path.{sym, ap, ap₂, subst, _∙_}
+use mathlib.Core.Path.{sym, ap₂, subst, _∙_}
 use Rattle.book_lines.specs.declared.digits.Number.{Number}
 use Rattle.book_lines.specs.Lines.{recordAtMost, onLine, listLine}
 use Rattle.book_lines.proofs.NumberLaws.{record-small}

@@ -1,5 +1,5 @@
 -- The tests pick the digit by the range of its byte. Assumes nothing.
-use mathlib.Core.Path.{_≡_, sym, _∙_}
+use mathlib.Core.Path.{sym}
 use native.Mathlib.Omega.{arith}
 use Rattle.book_lines.proofs.NumberLaws.{digit-decimal, digit-letter, digit-none}
 use borrow.Author.Needs.{needs}

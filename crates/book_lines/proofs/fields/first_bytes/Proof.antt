@@ -1,5 +1,5 @@
 -- A part of the slice is that part of the list. Assumes nothing.
-use mathlib.Core.Path.{sym, ap, ap₂, subst, _∙_}
+use mathlib.Core.Path.{sym}
 use lib.Seq.{length-take-le}
 use borrow.Author.Needs.{needs}
 use Rattle.book_lines.proofs.fields.first_bytes.Statement.{statement}

@@ -1,6 +1,6 @@
 -- The loop passes equal bytes until unequal ones or the end. Assumes nothing.
 use mathlib.Core.Path.{_≡_, sym, _∙_, refl}
-use Prim.Native.Nat.{_≤_, _+_, _-_}
+use Prim.Native.Nat.{_≤_, _-_}
 use native.Mathlib.Omega.{arith}
 use lib.ListN.{length, drop}
 use Rattle.book_lines.specs.Lines.{sameBytes}

@@ -1,5 +1,5 @@
 -- The answer of the tag code decides. Assumes nothing.
-use mathlib.Core.Path.{sym, ap}
+use mathlib.Core.Path.{sym}
 use Rattle.book_lines.specs.Lines.{hexadecimalTag}
 use Rattle.book_lines.proofs.TagLaws.{hexadecimal-key, hexadecimal-refused}
 use borrow.Author.Needs.{needs}

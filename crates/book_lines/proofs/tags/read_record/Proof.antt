@@ -1,6 +1,5 @@
 -- The length decides, then the digits. Assumes nothing.
-use mathlib.Core.Path.{sym, ap, ap₂, subst, _∙_}
-use native.Mathlib.Omega.{arith}
+use mathlib.Core.Path.{sym, _∙_}
 use Rattle.book_lines.proofs.TagLaws.{record-short, record-long, record-number}
 use borrow.Author.Needs.{needs}
 use Rattle.book_lines.proofs.tags.read_record.Statement.{statement}
