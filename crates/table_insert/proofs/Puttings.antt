@@ -28,12 +28,13 @@ use Rattle.index_table.specs.Pages.{pagesAt, leafOf, nodeAt, numberedAt, treeAt
 use Rattle.index_table.specs.Soundness.{SoundBelow}
 use Rattle.index_table.specs.Standing.{Owned}
 use Rattle.index_table.specs.declared.layout.Root.{Root}
+use Rattle.index_table.specs.Storing.{newLeaves}
 use Rattle.index_table.proofs.SoundNodes.{sound-tree, tree-root-rule, tree-depth}
 use Rattle.index_table.proofs.NumberedPages.{numbered-aside, numbereds-aside, tree-aside}
 use Rattle.index_table.proofs.UsedPages.{used-tree}
 use Rattle.index_table.proofs.StandingLaws.{stands-owned}
 use Rattle.table_search.specs.Places.{leftFrom, NextPosition}
-use Rattle.table_insert.specs.Inserting.{newLeaves, pageRef, Replaced, InsertPre}
+use Rattle.table_insert.specs.Inserting.{pageRef, Replaced, InsertPre}
 use Rattle.table_insert.specs.NewRoots.{rootsAt, GrowPre, GrowPost}
 use Rattle.table_insert.specs.Putting.{PutPre, PutPost}
 use Rattle.page_tree.proofs.NumberedLaws.{insert-aside, insertTree-aside}
