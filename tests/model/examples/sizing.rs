@@ -189,15 +189,22 @@ fn day_book(seeds: u64) {
 /// new lots.
 fn churn() {
     println!("## A steady herd of lots: most pages in use");
-    println!("| tags | E | leave | after filling | in 4 turnovers | in 8 | in 16 | bytes of so many pages |");
+    println!("| tags | E | leave | after filling | in 4 turnovers | in 8 | bytes of so many pages | rebuilt in key order |");
     println!("|---:|---:|---|---:|---:|---:|---:|---:|");
-    let herds = [(1000, 20), (1000, 60), (1000, 120), (1000, 255)];
-    for (steady, e) in herds
+    let small = [
+        (500, 60),
+        (750, 60),
+        (1000, 20),
+        (1000, 60),
+        (1000, 120),
+        (1000, 255),
+    ];
+    for (steady, e) in small
         .into_iter()
         .chain([(2000, 60), (2000, 120), (2000, 255)])
     {
         for whole in [true, false] {
-            let most = steady_herd(steady, e, [0, 4, 8, 16], whole);
+            let (most, keys) = steady_herd(steady, e, [0, 4, 8], whole);
             let leave = if whole {
                 "lot by lot"
             } else {
@@ -207,20 +214,31 @@ fn churn() {
             for pages in most {
                 print!(" {pages} |");
             }
-            println!(" {} |", 16 + most[3] * (2 + 3 * e));
+            let (rebuilt, _, _) = fill(e, 65_534, MOST_RECORDS, &keys);
+            println!(
+                " {} | {} |",
+                16 + most[2] * (2 + 3 * e),
+                rebuilt.root.pages().len()
+            );
         }
     }
     println!();
 }
 
-/// The most pages in use up to each number of turnovers.
-fn steady_herd(steady: usize, e: usize, turnovers: [usize; 4], whole: bool) -> [usize; 4] {
+/// The most pages in use up to each number of turnovers, and the keys held at
+/// the end, in order.
+fn steady_herd(
+    steady: usize,
+    e: usize,
+    turnovers: [usize; 3],
+    whole: bool,
+) -> ([usize; 3], Vec<u64>) {
     let mut random = Random::new(0);
-    let mut index = Index::empty(64, e, 65_534, MOST_RECORDS);
+    let mut index = Index::empty(64, e, 65_534, steady + 60);
     let mut free: Vec<u64> = (0..steady as u64 + 60).rev().collect();
     let mut held: Vec<Vec<(u64, u64)>> = Vec::new();
     let (mut count, mut most, mut gone) = (0, 0, 0);
-    turnovers.map(|turnovers| loop {
+    let most = turnovers.map(|turnovers| loop {
         while count < steady {
             let mut come = Vec::new();
             for key in lot(&mut random) {
@@ -235,7 +253,7 @@ fn steady_herd(steady: usize, e: usize, turnovers: [usize; 4], whole: bool) -> [
             most = most.max(index.root.pages().len());
         }
         if gone >= steady * turnovers {
-            return most;
+            break most;
         }
         let at = random.below(held.len());
         let leaving = if whole {
@@ -254,7 +272,8 @@ fn steady_herd(steady: usize, e: usize, turnovers: [usize; 4], whole: bool) -> [
             index.off(key).expect("a held key");
             free.push(record);
         }
-    })
+    });
+    (most, index.herd().into_keys().collect())
 }
 
 /// The fewest keys that a greedy search found to use up the pages: of many
@@ -313,7 +332,7 @@ fn greedy() {
 
 fn main() {
     held_by_kind(2);
-    day_book(2);
+    day_book(4);
     churn();
     greedy();
 }
