@@ -59,7 +59,7 @@ fn lots(random: &mut Random, count: usize) -> Vec<u64> {
 /// they come.
 type Kind = (&'static str, fn(&mut Random, usize) -> Vec<u64>);
 
-const KINDS: [Kind; 8] = [
+const KINDS: [Kind; 9] = [
     ("one run of numbers, in order", |_, count| {
         let from = 31_415_900_000;
         (0..count as u64).map(|i| tag(826, from + i)).collect()
@@ -95,6 +95,16 @@ const KINDS: [Kind; 8] = [
             // The upper 13 bits of the national number count the pairs.
             (0..count.min(1 << 14) as u64)
                 .map(|i| tag(826, (i / 2) << 25 | ((1 << 25) - 2) | i % 2))
+                .collect()
+        },
+    ),
+    (
+        "worst codes of a country up to 999: pairs that part in bit 64",
+        |_, count| {
+            // The upper 16 bits count the pairs; country 991 has nine one-bits.
+            let ones = 991 << 38 | ((1u64 << 38) - 2);
+            (0..count.min(1 << 17) as u64)
+                .map(|i| (i / 2) << 48 | ones | i % 2)
                 .collect()
         },
     ),
@@ -160,15 +170,13 @@ fn held_by_kind(seeds: u64) {
     println!();
 }
 
-/// What 4,096 records of each kind take at E 60, or as many as come before a
-/// refusal at P 250.
-fn day_book(seeds: u64) {
-    println!("## The day book: W 64, E 60, P 250, 4,096 records");
+/// What 4,096 records of each kind take, or as many as come before a refusal.
+fn records_4096(e: usize, p: usize, seeds: u64) {
+    println!("## W 64, E {e}, P {p}, 4,096 records");
     println!("| herd | tags held | stopped by | pages in use | entries a tag | entries a page on level 0 | root level |");
     println!("|---|---:|---|---:|---:|---:|---:|");
     for (name, keys) in KINDS {
-        let fills =
-            (0..seeds).map(|seed| fill(60, 250, 4096, &keys(&mut Random::new(seed), 4_200)));
+        let fills = (0..seeds).map(|seed| fill(e, p, 4096, &keys(&mut Random::new(seed), 4_200)));
         let (index, held, row) = fills.min_by_key(|(_, held, _)| *held).expect("a seed");
         let by = row.map_or("the register".to_string(), |row| format!("row {row}"));
         let pages = index.root.pages();
@@ -332,7 +340,8 @@ fn greedy() {
 
 fn main() {
     held_by_kind(2);
-    day_book(4);
+    records_4096(60, 250, 4);
+    records_4096(120, 125, 4);
     churn();
     greedy();
 }
