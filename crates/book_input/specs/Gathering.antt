@@ -1,6 +1,7 @@
 -- Taking lines from chunks: one call, and all calls on an input in chunks. Assumes nothing.
 use mathlib.Core.Path.{_≡_}
-use mathlib.Core.List.{List, _++_}
+use mathlib.Core.Bool.{true, false}
+use mathlib.Core.List.{List, [], _∷_, _++_}
 use Prim.Native.Nat.{ℕ, _+_, _≤_, _<_}
 use lib.ListN.{length, take, drop, set}
 use Rattle.book_input.specs.declared.Taken.{Taken}
@@ -29,3 +30,17 @@ pub record Takes (chunk : List ℕ) (from : ℕ) (held : List ℕ) (length₀ : 
   pub many : r .length ≡ length (gathered chunk from held length₀)
   pub place : r .at ≡ from + behindNewline (drop from chunk)
   pub ended : r .whole ≡ hasNewline (drop from chunk)
+
+-- The calls on an input that is read in chunks, from a place of a chunk on, with n bytes held and more chunks to come, and the lines gathered by them. At
+-- the end of the input a line without newline counts if it is not empty; at the end of a chunk the next is read; else a call takes a line, or a part of it.
+pub data Calls : List ℕ → ℕ → List ℕ → ℕ → List (List ℕ) → List (List ℕ) → Type 0 where
+  over : {chunk : List ℕ} {from : ℕ} {held : List ℕ} → length chunk ≤ from → Calls chunk from held 0 [] []
+  last : {chunk : List ℕ} {from : ℕ} {held : List ℕ} {n : ℕ} → length chunk ≤ from → 0 < n → Calls chunk from held n [] (take n held ∷ [])
+  next : {chunk : List ℕ} {from : ℕ} {held : List ℕ} {n : ℕ} {later : List ℕ} {chunks lines : List (List ℕ)}
+      → length chunk ≤ from → Calls later 0 held n chunks lines → Calls chunk from held n (later ∷ chunks) lines
+  whole : {chunk : List ℕ} {from : ℕ} {held : List ℕ} {n : ℕ} {after : List ℕ} {r : Taken} {chunks lines : List (List ℕ)}
+      → from < length chunk → Takes chunk from held n after r → r .whole ≡ true → Calls chunk (r .at) after 0 chunks lines
+      → Calls chunk from held n chunks (take (r .length) after ∷ lines)
+  part : {chunk : List ℕ} {from : ℕ} {held : List ℕ} {n : ℕ} {after : List ℕ} {r : Taken} {chunks lines : List (List ℕ)}
+      → from < length chunk → Takes chunk from held n after r → r .whole ≡ false → Calls chunk (r .at) after (r .length) chunks lines
+      → Calls chunk from held n chunks lines
