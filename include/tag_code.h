@@ -12,6 +12,21 @@
 extern "C" {
 #endif
 
+/* The numbers that both calls answer, as told above. */
+enum tag_code_number {
+    TAG_CODE_DONE = 0,
+    TAG_CODE_OUTSIDE_LIMITS = 11
+};
+
+/* The largest value of each field. */
+#define TAG_CODE_MAX_ANIMAL 1
+#define TAG_CODE_MAX_RETAG 7
+#define TAG_CODE_MAX_USER 31
+#define TAG_CODE_MAX_RESERVED 63
+#define TAG_CODE_MAX_BLOCK 1
+#define TAG_CODE_MAX_COUNTRY 999
+#define TAG_CODE_MAX_NATIONAL UINT64_C(274877906943)
+
 struct tag_code_packed {
     uint32_t number;
     uint64_t code;
@@ -29,9 +44,13 @@ struct tag_code_unpacked {
     uint64_t national; /* bits 27 to 64: at most 274877906943 */
 };
 
+/* Pack: the code of the fields. Refused by 11. */
 struct tag_code_packed tag_code_pack(uint64_t animal, uint64_t retag, uint64_t user, uint64_t reserved,
                                      uint64_t block, uint64_t country, uint64_t national);
 
+/* Unpack: the fields of a code; only its country can be refused, by 11.
+   Packing what unpacking gave, or unpacking what packing gave, gives back the
+   same. */
 struct tag_code_unpacked tag_code_unpack(uint64_t code);
 
 #ifdef __cplusplus

@@ -4,8 +4,16 @@
    2 + 3E bytes) and a register: one key and one byte (1 in use, 0 free) for
    each record. Every slice is a pointer and its length in elements. A pointer
    is never null, even where the length is 0; slices lent to one call do not
-   overlap. The library keeps no memory of its own: it works in the tables
-   alone, and calls on different tables may run at the same time.
+   overlap. The library keeps no memory of its own and no pointer: it works in
+   the tables and on the stack alone. Calls on different tables may run at the
+   same time, and so may calls of find, list and check on the same tables.
+   Measured on x86-64, find, list and check took up to 73000 bytes of stack, on
+   and off up to 168000 (root level 15): leave a thread 256 KiB.
+
+   The two slices of a register have one length. If they have not, format
+   answers 9, check false, and every other call 1. A key of W bits is a number
+   below 2 to the power W. Numbers in the index table are stored high byte
+   first, whatever the machine; the register's keys are numbers of the machine.
 
    Every call but check answers a number: 0 done, or, the first that applies,
      9  format: W is not 1 to 64, E not 2 to 255, P not 1 to 65534, the
@@ -30,6 +38,41 @@
 #ifdef __cplusplus
 extern "C" {
 #endif
+
+/* The numbers that a call answers, as told above. */
+enum tag_index_number {
+    TAG_INDEX_DONE = 0,
+    TAG_INDEX_NOT_SOUND = 1,
+    TAG_INDEX_KEY_TOO_WIDE = 2,
+    TAG_INDEX_NO_SUCH_RECORD = 3,
+    TAG_INDEX_RECORD_IN_USE = 4,
+    TAG_INDEX_KEY_HELD = 5,
+    TAG_INDEX_KEY_NOT_HELD = 6,
+    TAG_INDEX_OUT_OF_PAGES = 7,
+    TAG_INDEX_ROOT_TOO_HIGH = 8,
+    TAG_INDEX_OUTSIDE_LIMITS = 9
+};
+
+/* The limits of W (bits of a key), E (entries a page may hold), P (pages),
+   the register's records and the root's level. */
+#define TAG_INDEX_MIN_WIDTH 1
+#define TAG_INDEX_MAX_WIDTH 64
+#define TAG_INDEX_MIN_ENTRIES 2
+#define TAG_INDEX_MAX_ENTRIES 255
+#define TAG_INDEX_MIN_PAGES 1
+#define TAG_INDEX_MAX_PAGES 65534
+#define TAG_INDEX_MIN_RECORDS 1
+#define TAG_INDEX_MAX_RECORDS 65534
+#define TAG_INDEX_MAX_LEVEL 15
+
+/* The record of an answer that has none. */
+#define TAG_INDEX_NO_RECORD 65535
+
+/* The bytes of the header, of a page of E entries, and of an index table of P
+   such pages: constants where E and P are. Each is exact inside the limits. */
+#define TAG_INDEX_HEADER_BYTES 16
+#define TAG_INDEX_PAGE_BYTES(e) (2 + 3 * (size_t)(e))
+#define TAG_INDEX_BYTES(e, p) (TAG_INDEX_HEADER_BYTES + (size_t)(p) * TAG_INDEX_PAGE_BYTES(e))
 
 struct tag_index_answer {
     uint32_t number; /* 0 done, or the number of the refusal */

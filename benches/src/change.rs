@@ -16,10 +16,13 @@ const IN_A_ROW: usize = 16;
 /// How often that is done in a round.
 const ROWS: usize = 16;
 
+/// After so many rounds the tables are those of the start again.
+const SAME_TABLES: usize = 64;
+
 /// A herd with all that a round works on.
 struct Bench {
     tables: Tables,
-    /// The tables as they are at the start of each round.
+    /// The tables as they are at the start.
     copy: Tables,
     map: BTreeMap<u64, u32>,
     /// Keys to put on, all different and none held.
@@ -83,6 +86,14 @@ impl Bench {
         black_box(check(black_box(&self.tables)));
     }
 
+    fn on(&mut self, key: u64) {
+        black_box(on(black_box(&mut self.tables), key, self.free));
+    }
+
+    fn off(&mut self, key: u64) {
+        black_box(off(black_box(&mut self.tables), key));
+    }
+
     fn insert(&mut self, key: u64) {
         black_box(black_box(&mut self.map).insert(key, self.free));
     }
@@ -98,37 +109,50 @@ impl Bench {
         self.tables.used.copy_from_slice(&self.copy.used);
     }
 
-    /// A key put on and taken off, each timed next to a check of the tables that
-    /// it gets; and a check with an insert, and with a remove.
-    fn pair(&mut self, key: u64, round: &mut Round) {
-        let without = once(|| self.check());
-        let put_on = once(|| {
-            black_box(on(black_box(&mut self.tables), key, self.free));
-        });
-        let with = once(|| self.check());
-        let taken_off = once(|| {
-            black_box(off(black_box(&mut self.tables), key));
-        });
-        let inserted = once(|| {
-            self.check();
-            self.insert(key);
-        });
-        let removed = once(|| {
-            self.check();
-            self.remove(key);
-        });
+    /// A key put on and taken off with a check of the tables between; a check of
+    /// the tables without the key; a check with an insert, and with a remove. On
+    /// and off check the same tables as the checks that they are compared with.
+    fn pair(&mut self, number: usize, round: &mut Round) {
+        let key = self.key(number);
+        let [mut put_on, mut with, mut taken_off] = [0.0; 3];
+        let [mut without, mut inserted, mut removed] = [0.0; 3];
+        for kind in order(number) {
+            match kind {
+                Kind::Change => {
+                    put_on = once(|| self.on(key));
+                    with = once(|| self.check());
+                    taken_off = once(|| self.off(key));
+                }
+                Kind::Check => without = once(|| self.check()),
+                Kind::Insert => {
+                    inserted = once(|| {
+                        self.check();
+                        self.insert(key);
+                    });
+                }
+                Kind::Remove => {
+                    removed = once(|| {
+                        self.check();
+                        self.remove(key);
+                    });
+                }
+            }
+        }
         add(&mut round.call, [put_on, taken_off]);
         add(&mut round.above, [put_on - without, taken_off - with]);
         add(&mut round.behind, [inserted - without, removed - without]);
     }
 
-    /// One round. The tables are first those of the start, and in the caches.
+    /// One round, of which a first check is not timed.
     fn round(&mut self, number: usize) -> Round {
         let mut round = Round::default();
-        self.restore();
+        if number % SAME_TABLES == 0 {
+            self.restore();
+            self.check();
+        }
         self.check();
         for pair in 0..self.pairs {
-            self.pair(self.key(number * self.pairs + pair), &mut round);
+            self.pair(number * self.pairs + pair, &mut round);
         }
         for row in 0..ROWS {
             let first = (number * ROWS + row) * IN_A_ROW;
@@ -136,20 +160,36 @@ impl Bench {
             let removed = time(first, IN_A_ROW, |number| self.remove(self.key(number)));
             add(&mut round.map, [inserted, removed]);
         }
-        let Round {
-            call,
-            above,
-            map,
-            behind,
-        } = round;
         let each = |sums: [f64; 2], times: usize| sums.map(|sum| sum / times as f64);
         Round {
-            call: each(call, self.pairs),
-            above: each(above, self.pairs),
-            map: each(map, ROWS),
-            behind: each(behind, self.pairs),
+            call: each(round.call, self.pairs),
+            above: each(round.above, self.pairs),
+            map: each(round.map, ROWS),
+            behind: each(round.behind, self.pairs),
         }
     }
+}
+
+/// What is timed for a key.
+#[derive(Clone, Copy, PartialEq, Eq)]
+enum Kind {
+    Change,
+    Check,
+    Insert,
+    Remove,
+}
+
+/// A random order, but no remove before its insert.
+fn order(number: usize) -> [Kind; 4] {
+    let mut kinds = [Kind::Change, Kind::Check, Kind::Insert, Kind::Remove];
+    Random::new(number as u64).shuffle(&mut kinds);
+    let place = |kind| kinds.iter().position(|&other| other == kind);
+    if let (Some(insert), Some(remove)) = (place(Kind::Insert), place(Kind::Remove)) {
+        if remove < insert {
+            kinds.swap(remove, insert);
+        }
+    }
+    kinds
 }
 
 fn add(sums: &mut [f64; 2], times: [f64; 2]) {

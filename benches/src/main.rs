@@ -22,8 +22,8 @@ of the ratios within rounds, and a row that is less check that of the difference
 the median (95 in 100). Such a row is a small difference of large numbers: where the brackets are wide, it is not
 known better than that. Gets run many in a row, with caches and branch prediction to themselves; behind a check, a
 get finds them as a find does. On and off have rounds of their own, on tables with one free record: a key is put on
-and taken off again, each timed alone next to a check of the tables that it gets. Every round starts from the same
-tables. Inserts and removes run 16 in a row.";
+and taken off again, each call timed alone, and less a check of the same tables. Checks and what is compared with
+them come in random order. Inserts and removes run 16 in a row.";
 
 /// Prints a row: its name, and a cell for each herd.
 fn row<T>(name: &str, herds: &[T], cell: impl Fn(&T) -> String) {

@@ -18,7 +18,7 @@ use Rattle.table_change.specs.Changes.{tooWide, isSome, isHeld, onRow, onRowOf,
 use Rattle.table_change.proofs.SoundAfter.{herd-on, herd-off}
 use Rattle.tag_index.specs.Format.{FormatDoes}
 use Rattle.tag_index.specs.Changing.{OnDoes, OffDoes, rowBehind}
-use Rattle.tag_index.specs.Reading.{Judged}
+use Rattle.tag_index.specs.Reading.{Judged, FindDoes, ListDoes}
 use Rattle.tag_index.specs.Histories.{Tables, Call, format, on, off, find, list, check, Reply, answered, sliced, said, OrderedMap, Sizes, sizesOf, Feed, feedOf, formats, emptyMap, mapOnRow, mapOffRow, mapReply, mapAfter}
 use Rattle.tag_index.proofs.EmptySound.{format-sound, format-lengths, format-width, format-empties}
 use Rattle.tag_index.proofs.RecordKeys.{record-taken}
@@ -51,20 +51,26 @@ holds-same h index keys used = record {
 
 -- ---- the calls that only read
 
-pub finds-step : {z : Sizes} {f : Feed} {m : OrderedMap} {t : Tables} {key : ℕ} {r : Answer} → Holds z m t → Finds key t r → Step z f m (find key) (answered r) t
-finds-step h s =
-    let does = finds-does s in
+pub find-does-step : {z : Sizes} {f : Feed} {m : OrderedMap} {t : Tables} {key : ℕ} {r : Answer} → Holds z m t → FindDoes (t .index) (t .keys) (t .used) key r
+    → Step z f m (find key) (answered r) t
+find-does-step h does =
     record { reply = ap answered (rw (← h .width, ← h .herd) (rw (judged-sound (h .sound) (does .judged)) at (does .answer))); holds = h }
+
+pub finds-step : {z : Sizes} {f : Feed} {m : OrderedMap} {t : Tables} {key : ℕ} {r : Answer} → Holds z m t → Finds key t r → Step z f m (find key) (answered r) t
+finds-step h s = find-does-step h (finds-does s)
 
 pub checks-step : {z : Sizes} {f : Feed} {m : OrderedMap} {t : Tables} {r : Bool} → Holds z m t → Checks t r → Step z f m check (said r) t
 checks-step h s = record { reply = ap said (checks-does s .1 (h .sound)); holds = h }
 
-pub lists-step : {z : Sizes} {f : Feed} {m : OrderedMap} {t : Tables} {a b : ℕ} {out out₁ : List ℕ} {r : Answer} → Holds z m t → Lists a b out out₁ t r
-    → Step z f m (list a b out) (sliced r out₁) t
-lists-step h s =
-    let does = lists-does s in
+pub list-does-step : {z : Sizes} {f : Feed} {m : OrderedMap} {t : Tables} {a b : ℕ} {out out₁ : List ℕ} {r : Answer} → Holds z m t
+    → ListDoes (t .index) (t .keys) (t .used) a b out out₁ r → Step z f m (list a b out) (sliced r out₁) t
+list-does-step h does =
     let j = judged-sound (h .sound) (does .judged) in
     record { reply = ap₂ sliced (rw (← h .width, ← h .herd) (rw j at (does .answer))) (rw (← h .width, ← h .herd) (rw j at (does .slice))); holds = h }
+
+pub lists-step : {z : Sizes} {f : Feed} {m : OrderedMap} {t : Tables} {a b : ℕ} {out out₁ : List ℕ} {r : Answer} → Holds z m t → Lists a b out out₁ t r
+    → Step z f m (list a b out) (sliced r out₁) t
+lists-step h s = list-does-step h (lists-does s)
 
 -- ---- format
 
@@ -151,15 +157,18 @@ module _ {z : Sizes} {m : OrderedMap} {t u : Tables} {key r : ℕ} {a : Answer} 
       let o = does .refused (eqb-false (rowBehind (does .judged) (onRowOf (t .index) (t .keys) (t .used) key r)) 0 e) in
       holds-same h (o .0) (o .1) (o .2)
 
-pub ons-step : {z : Sizes} {m : OrderedMap} {t u : Tables} {key r : ℕ} {a : Answer} → Holds z m t → Ons key r t u a
-    → Step z (feedOf t (on key r)) m (on key r) (answered a) u
+pub on-does-step : {z : Sizes} {m : OrderedMap} {t u : Tables} {key r : ℕ} {a : Answer} → Holds z m t
+    → OnDoes (t .index) (t .keys) (t .used) key r (u .index) (u .keys) (u .used) a → Step z (feedOf t (on key r)) m (on key r) (answered a) u
 unfolding fed
-ons-step {t = t} {key = key} {r = r} h s =
-    let does = ons-does s in
+on-does-step {t = t} {key = key} {r = r} h does =
     record {
       reply = ap answered (does .answer ∙ ap plain (on-row h does));
       holds = rw (on-row h does) at (on-behind h does (eqb (rowBehind (does .judged) (onRowOf (t .index) (t .keys) (t .used) key r)) 0) refl);
     }
+
+pub ons-step : {z : Sizes} {m : OrderedMap} {t u : Tables} {key r : ℕ} {a : Answer} → Holds z m t → Ons key r t u a
+    → Step z (feedOf t (on key r)) m (on key r) (answered a) u
+ons-step h s = on-does-step h (ons-does s)
 
 -- ---- off
 
@@ -180,11 +189,14 @@ module _ {z : Sizes} {m : OrderedMap} {t u : Tables} {key : ℕ} {a : Answer} (h
       let o = does .refused (eqb-false (rowBehind (does .judged) (offRowOf (t .index) (t .keys) (t .used) key)) 0 e) in
       holds-same h (o .0) (o .1) (o .2)
 
-pub offs-step : {z : Sizes} {f : Feed} {m : OrderedMap} {t u : Tables} {key : ℕ} {a : Answer} → Holds z m t → Offs key t u a
-    → Step z f m (off key) (answered a) u
-offs-step {t = t} {key = key} h s =
-    let does = offs-does s in
+pub off-does-step : {z : Sizes} {f : Feed} {m : OrderedMap} {t u : Tables} {key : ℕ} {a : Answer} → Holds z m t
+    → OffDoes (t .index) (t .keys) (t .used) key (u .index) (u .keys) (u .used) a → Step z f m (off key) (answered a) u
+off-does-step {t = t} {key = key} h does =
     record {
       reply = ap answered (does .answer ∙ ap plain (off-row h does));
       holds = rw (off-row h does) at (off-behind h does (eqb (rowBehind (does .judged) (offRowOf (t .index) (t .keys) (t .used) key)) 0) refl);
     }
+
+pub offs-step : {z : Sizes} {f : Feed} {m : OrderedMap} {t u : Tables} {key : ℕ} {a : Answer} → Holds z m t → Offs key t u a
+    → Step z f m (off key) (answered a) u
+offs-step h s = off-does-step h (offs-does s)

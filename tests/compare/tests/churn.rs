@@ -289,7 +289,7 @@ fn small_pages(width: usize, entries: usize, pages: usize, records: usize) -> Me
             records,
         },
         stretch: 500,
-        along: 20,
+        along: 8,
         claimed: 5,
         spreads: &SPREADS,
     };
@@ -338,7 +338,7 @@ fn the_day_books_tables() {
             records: 4_096,
         },
         stretch: 500,
-        along: 40,
+        along: 20,
         claimed: 20,
         spreads: &[Spread::Even],
     };

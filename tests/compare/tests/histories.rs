@@ -92,8 +92,8 @@ fn shapes_of_all_kinds() {
         let shape = any_shape(&mut random);
         hold(seed, &history(&mut random, shape, 120), &mut met);
     }
-    met.assert(20, &ANSWERS);
-    met.assert(20, &PAGE_CHANGES);
+    met.assert(5, &ANSWERS);
+    met.assert(5, &PAGE_CHANGES);
 }
 
 #[test]
@@ -111,8 +111,8 @@ fn every_width_with_two_entries_a_page() {
             hold(seed, &history(&mut random, shape, 80), &mut met);
         }
     }
-    met.assert(10, &PAGE_CHANGES);
-    met.assert(10, &["on 7", "on 8"]);
+    met.assert(5, &PAGE_CHANGES);
+    met.assert(3, &["on 7", "on 8"]);
 }
 
 /// Ons of keys in pairs that begin alike, which bring many dummies, and then
@@ -148,8 +148,8 @@ fn few_and_many_entries_a_page() {
         let history = growing_and_shrinking(&mut random, shape);
         hold(seed, &history, &mut met);
     }
-    met.assert(20, &["on 0", "off 0", "pages taken", "page emptied"]);
-    met.assert(20, &["new root", "root lowered"]);
+    met.assert(10, &["on 0", "off 0", "pages taken", "page emptied"]);
+    met.assert(5, &["new root", "root lowered"]);
 }
 
 #[test]
@@ -166,8 +166,8 @@ fn large_pages() {
         let history = growing_and_shrinking(&mut random, shape);
         hold(seed, &history, &mut met);
     }
-    met.assert(4, &["new root", "root lowered"]);
-    met.assert(8, &["one page taken", "page emptied"]);
+    met.assert(3, &["new root", "root lowered"]);
+    met.assert(4, &["one page taken", "page emptied"]);
 }
 
 #[test]

@@ -1,0 +1,4 @@
+pub mod Decimals
+pub mod Writing
+pub mod Lines
+pub mod Examples
