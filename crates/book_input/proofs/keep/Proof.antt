@@ -4,26 +4,19 @@ use mathlib.Core.Path.{refl}
 use native.Mathlib.Omega.{arith}
 use Rattle.book_input.proofs.keep.Statement.{statement}
 use Rattle.book_input.proofs.keep.Tie as tie
-use Rattle.book_input.proofs.keep.Reads as reads
-use Rattle.book_input.proofs.keep.Lts as lts
 
--- src/lib.rt:20:9
 returns : tie.Need-returns
 returns c = record { stored = λ h. absurd (omega arith); more = λ h. absurd (omega arith); full = λ h. refl; same = λ h. refl }
 
--- src/lib.rt:22:5
 slice-write-held : tie.Need-slice-write-held
 slice-write-held c = search needs
 
--- src/lib.rt:23:5
 add-result : tie.Need-add-result
 add-result c = search needs
 
--- src/lib.rt:15:1
 same-length : tie.Need-same-length
 same-length c = search needs
 
--- src/lib.rt:15:1
 returns-2 : tie.Need-returns-2
 returns-2 c = record { stored = λ h. refl; more = λ h. refl; full = λ h. absurd (omega arith); same = λ h. absurd (omega arith) }
 

@@ -9,9 +9,6 @@ use Rattle.book_input.specs.Gathering.{TakePre, Takes}
 use Rattle.book_input.proofs.TakenBytes.{takes-nothing, takes-newline, takes-byte, keeps-pre}
 use Rattle.book_input.proofs.take_line.Statement.{statement}
 use Rattle.book_input.proofs.take_line.Tie as tie
-use Rattle.book_input.proofs.take_line.Reads as reads
-use Rattle.book_input.proofs.take_line.Lts as lts
-use Rattle.book_input.proofs.keep.Reads as keep-reads
 
 abbrev Inv-loop : tie.InvT-loop
 Inv-loop chunk from held₀ length at₀ n₀ held at n = TakePre chunk at held n × ((after : List ℕ) (r : Taken) → Takes chunk at held n after r → Takes chunk from held₀ length after r)
@@ -19,37 +16,29 @@ Inv-loop chunk from held₀ length at₀ n₀ held at n = TakePre chunk at held 
 abbrev μ-loop : tie.MeasureT-loop
 μ-loop chunk from held₀ length at₀ n₀ held at n = len chunk - at
 
--- src/lib.rt:33:5
 loop-holds : tie.Need-loop-holds Inv-loop μ-loop
 loop-holds c = (c .before .before .pre, λ after r t. t)
 
--- src/lib.rt:34:20
 shared-slice-read-byte : tie.Need-shared-slice-read-byte Inv-loop μ-loop
 shared-slice-read-byte c = search needs
 
--- src/lib.rt:35:9
 add-at : tie.Need-add-at Inv-loop μ-loop
 add-at c = search needs
 
--- src/lib.rt:37:13
 same-length : tie.Need-same-length Inv-loop μ-loop
 same-length c = search needs
 
--- src/lib.rt:37:13
 returns : tie.Need-returns Inv-loop μ-loop
 returns c =
     let loop = c .before .before .before .loop in
     loop .inv .1 _ _ (takes-newline _ _ _ _ (c .before .before .loop-test .taken) (c .if1 .taken) (loop .inv .0))
 
--- src/lib.rt:43:9
 keep-requires : tie.Need-keep-requires Inv-loop μ-loop
 keep-requires c κs = search needs
 
--- src/lib.rt:33:5
 loop-less : tie.Need-loop-less Inv-loop μ-loop
 loop-less c = search needs
 
--- src/lib.rt:33:5
 loop-again : tie.Need-loop-again Inv-loop μ-loop
 loop-again c =
     let loop = c .before .before .before .before .before .before .before .loop in
@@ -59,11 +48,9 @@ loop-again c =
       λ after r t. loop .inv .1 after r (takes-byte _ _ _ _ _ _ after r inside (c .before .before .before .before .if1 .left) (loop .inv .0) keeps t),
     )
 
--- src/lib.rt:27:1
 same-length-2 : tie.Need-same-length-2 Inv-loop μ-loop
 same-length-2 c = search needs
 
--- src/lib.rt:27:1
 returns-2 : tie.Need-returns-2 Inv-loop μ-loop
 returns-2 c = c .before .loop .inv .1 _ _ (takes-nothing _ _ _ _ (c .loop-test .left) (c .before .loop .inv .0))
 
