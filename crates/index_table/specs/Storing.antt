@@ -1,11 +1,12 @@
 -- When a part of a row can be stored as a page, and a part of a page loaded into a row. Assumes nothing.
-use mathlib.Core.List.{List, _++_}
+use mathlib.Core.List.{List, _++_, map}
 use Prim.Native.Nat.{ℕ, suc, _+_, _-_, _≤_, _<_}
 use lib.ListN.{length, take, drop}
-use Rattle.page_tree.specs.Row.{partOf}
+use Rattle.page_tree.specs.Row.{rowOf, partOf}
+use Rattle.page_tree.specs.OnPages.{Replacement}
 use Rattle.page_tree.specs.declared.Row.{Row}
 use Rattle.index_table.specs.Layout.{Within, layoutOf, Fitting}
-use Rattle.index_table.specs.Pages.{pagesAt}
+use Rattle.index_table.specs.Pages.{pagesAt, leafOf}
 
 pub record Storable (e : ℕ) (b : List ℕ) (p : ℕ) (row : Row) (from to : ℕ) : Type 0 where
   pub within : Within (layoutOf e) b p
@@ -30,3 +31,7 @@ pub record Spliceable (e : ℕ) (b : List ℕ) (p at : ℕ) (parts : Row) : Type
   pub few : length (pagesAt (layoutOf e) b p) ≤ e
   pub inside : at < length (pagesAt (layoutOf e) b p)
   pub room : parts .count ≤ 65
+
+-- The entries of a row in the place of the entry found, whichever it is.
+abbrev pub newLeaves : Row → Replacement
+newLeaves news bs τ x = map (leafOf 65535) (rowOf news)

@@ -24,11 +24,12 @@ use Rattle.index_table.specs.Header.{widthOf, entriesOf, pagesOf, rootOf, heldO
 use Rattle.index_table.specs.Pages.{pagesAt, leafOf, numberedTreeAt}
 use Rattle.index_table.specs.Soundness.{Sound, SoundPages, rootLevel, treeOf, numberedTreeOf}
 use Rattle.index_table.specs.Standing.{TreeTable}
+use Rattle.index_table.specs.Storing.{newLeaves}
 use Rattle.index_table.proofs.SoundTables.{header-long, leaf-depths}
 use Rattle.table_change.specs.Changes.{treeAfterOn, OnDone, HeldKey, OffDone}
 use Rattle.table_change.specs.Entries.{entriesIn}
 use Rattle.table_change.specs.News.{foundFor, NewsFor, NewKey}
-use Rattle.table_change.specs.Repaging.{Repaged, OnPages, always, treeWith, numberedWith}
+use Rattle.table_change.specs.Repaging.{Repaged, OnPages, treeWith, numberedWith}
 use Rattle.table_change.proofs.Rerooted.{after-length, after-header, after-sound, after-tree}
 use Rattle.table_change.proofs.SoundAfter.{numbered-tree, on-keeps-sound, off-keeps-sound}
 
@@ -122,13 +123,13 @@ module _ {index keys : List ℕ} {key r : ℕ} {news : Row} (n : NewsFor index k
   belonging = newEntries (λ x. bits (widthOf index) (keyAt keys x)) (bits (widthOf index) key) r
 
   pub tree-after : treeWith index key news ≡ treeAfterOn index keys key r
-  tree-after = insertTree-here (entriesOf index) (always news) belonging (positions 0 (bits (widthOf index) key)) (treeOf index) (n .entries)
+  tree-after = insertTree-here (entriesOf index) (newLeaves news) belonging (positions 0 (bits (widthOf index) key)) (treeOf index) (n .entries)
 
   pub numbered-after : (fresh : ℕ → List ℕ)
       → numberedWith fresh index key news ≡ onNumbered (entriesOf index) fresh (widthOf index) (keyAt keys) key r (numberedTreeOf index)
   numbered-after fresh =
-      insertNumberedTree-here (entriesOf index) (always news) belonging fresh (positions 0 (bits (widthOf index) key)) (numberedTreeOf index)
-      (subst (λ (t : Tree). AgreeAt (always news) belonging (findIn (positions 0 (bits (widthOf index) key)) t)) (sym (numbered-tree index)) (n .entries))
+      insertNumberedTree-here (entriesOf index) (newLeaves news) belonging fresh (positions 0 (bits (widthOf index) key)) (numberedTreeOf index)
+      (subst (λ (t : Tree). AgreeAt (newLeaves news) belonging (findIn (positions 0 (bits (widthOf index) key)) t)) (sym (numbered-tree index)) (n .entries))
 
 -- Off, from the pages that it leaves.
 pub off-taken : {index keys used : List ℕ} {key r : ℕ} {index₁ : List ℕ} → HeldKey index keys used key r

@@ -11,7 +11,7 @@ use Rattle.leaf_list.proofs.Depths.{Neighbours}
 use Rattle.page_tree.specs.Row.{rowOf}
 use Rattle.page_tree.specs.Rows.{All, Closed}
 use Rattle.page_tree.specs.Tree.{Tree, pagesOf as treePages}
-use Rattle.page_tree.specs.OnPages.{Replacement, insertTree}
+use Rattle.page_tree.specs.OnPages.{insertTree}
 use Rattle.page_tree.specs.Numbered.{NumberedTree, insertNumberedTree, offNumbered}
 use Rattle.page_tree.specs.declared.Row.{Row}
 use Rattle.leaf_list.specs.Entries.{depthOf}
@@ -20,7 +20,7 @@ use Rattle.index_table.specs.Header.{widthOf, entriesOf, pagesOf, rootOf, heldO
 use Rattle.index_table.specs.Pages.{pagesAt, numberedTreeAt}
 use Rattle.index_table.specs.Soundness.{SoundPages, rootLevel, treeOf, numberedTreeOf, leafEntries}
 use Rattle.index_table.specs.Standing.{TreeTable}
-use Rattle.table_change.specs.Entries.{entriesIn}
+use Rattle.index_table.specs.Storing.{newLeaves}
 use Rattle.table_change.specs.News.{foundFor}
 
 -- The index table as the change of pages needs it: its tree is sound, and a record more may be held.
@@ -49,16 +49,12 @@ pub record OffPagesPre (index : List ℕ) (key : ℕ) : Type 0 where
 
 -- ---- on
 
--- The entries of a row, whatever is found.
-abbrev pub always : Row → Replacement
-always news bs τ e = entriesIn news
-
 -- The tree with the entries of a row in the place of the entry that figure 6 finds for a key.
 abbrev pub treeWith : List ℕ → ℕ → Row → Tree
-treeWith index key news = insertTree (entriesOf index) (always news) (positions 0 (bits (widthOf index) key)) (treeOf index)
+treeWith index key news = insertTree (entriesOf index) (newLeaves news) (positions 0 (bits (widthOf index) key)) (treeOf index)
 
 abbrev pub numberedWith : (ℕ → List ℕ) → List ℕ → ℕ → Row → NumberedTree
-numberedWith fresh index key news = insertNumberedTree (entriesOf index) fresh (always news) (positions 0 (bits (widthOf index) key)) (numberedTreeOf index)
+numberedWith fresh index key news = insertNumberedTree (entriesOf index) fresh (newLeaves news) (positions 0 (bits (widthOf index) key)) (numberedTreeOf index)
 
 -- Row 8, then row 7, of the tree with them; 0 if neither applies.
 abbrev pub lateRowWith : List ℕ → ℕ → Row → ℕ

@@ -19,14 +19,14 @@ use Rattle.page_tree.proofs.ListLaws.{all-unit}
 use Rattle.index_table.specs.Layout.{layoutOf, Ref, pageBytes, countOf, refAt, Fitting}
 use Rattle.index_table.specs.Pages.{Pages, pagesAt, nodeAt, numberedAt, met, metAll}
 use Rattle.index_table.specs.Soundness.{SoundBelow}
-use Rattle.index_table.specs.Storing.{splicedAt, Spliceable}
+use Rattle.index_table.specs.Storing.{newLeaves, splicedAt, Spliceable}
 use Rattle.index_table.proofs.PageRows.{length-refs}
 use Rattle.table_search.specs.declared.Spot.{Spot}
 use Rattle.table_search.specs.Places.{leftFrom, Stopped, DescendPre}
 use Rattle.table_search.proofs.Stops.{read-entry}
 use Rattle.table_search.proofs.Descents.{descend-step, descend-down}
 use Rattle.table_insert.specs.Placing.{PlacePre, PlacePost}
-use Rattle.table_insert.specs.Inserting.{newLeaves, pageRef, Replaced, AlonePre, InsertPre}
+use Rattle.table_insert.specs.Inserting.{pageRef, Replaced, AlonePre, InsertPre}
 use Rattle.table_insert.proofs.InsertSteps.{found-owned, found-pages, splice-pre, place-pre, replaced-kept, replaced-spliced}
 
 -- The number that is read first of an entry above rank 0 is its pointer.

@@ -1,16 +1,15 @@
--- New roots with their numbers: numbers aside they are the new roots, and fuel that is enough is not seen. Assumes nothing.
+-- New roots with their numbers: only those of higher levels are looked at, and fuel that is enough is not seen. Assumes nothing.
 use mathlib.Core.Path.{_≡_, refl, ap, sym, _∙_}
 use mathlib.Core.List.{List, [], _∷_, map}
 use Prim.Native.Nat.{ℕ, zero, suc, _≤_, _<_}
 use native.Mathlib.Omega.{arith}
-use lib.ListN.{length, length-map}
+use lib.ListN.{length}
 use Rattle.page_tree.specs.Tree.{Node, depth}
 use Rattle.page_tree.specs.Cutting.{parts}
-use Rattle.page_tree.specs.OnPages.{Replacement, grow, grown, insertTree}
-use Rattle.page_tree.specs.Numbered.{Numbered, NumberedTree, aside, treeAside, numberedDepth, under, growNumbered, grownNumbered, insertNumberedTree, insertNumbered}
-use Rattle.page_tree.proofs.RowMaps.{parts-map}
+use Rattle.page_tree.specs.OnPages.{grow}
+use Rattle.page_tree.specs.Numbered.{Numbered, numberedDepth, under, growNumbered, grownNumbered}
 use Rattle.page_tree.proofs.Growing.{parts-fewer, grow-induction}
-use Rattle.table_insert.proofs.NumberedInsertion.{length-under, under-aside, same-depths, insertNumbered-aside}
+use Rattle.table_insert.proofs.NumberedInsertion.{length-under}
 
 -- A root stands no lower than the pages that it stands above.
 pub grow-level : (E fuel n : ℕ) (xs : List (Node (suc n))) → n ≤ grow E fuel n xs .0
@@ -18,28 +17,6 @@ grow-level E =
     grow-induction E (λ fuel n xs t. n ≤ t .0) (λ fuel n. omega arith) (λ fuel n x. omega arith) (λ n x y xs. omega arith) (λ fuel n x y xs ih. omega (arith, ih))
 
 module _ (E : ℕ) where
-  -- Page numbers aside.
-  pub growNumbered-aside : (fresh : ℕ → List ℕ) (fuel n : ℕ) (xs : List (Numbered (suc n))) → treeAside (growNumbered E fresh fuel n xs) ≡ grow E fuel n (map (aside (suc n)) xs)
-  growNumbered-aside fresh zero n [] = refl
-  growNumbered-aside fresh zero n (x ∷ []) = refl
-  growNumbered-aside fresh zero n (x ∷ y ∷ xs) = refl
-  growNumbered-aside fresh (suc fuel) n [] = refl
-  growNumbered-aside fresh (suc fuel) n (x ∷ []) = refl
-  growNumbered-aside fresh (suc fuel) n (x ∷ y ∷ xs) =
-      let row : List (Numbered (suc n)) = x ∷ y ∷ xs in
-      growNumbered-aside fresh fuel (suc n) (under (fresh (suc n)) (parts (numberedDepth (suc n)) E row))
-      ∙ ap (grow E fuel (suc n))
-      (under-aside (suc n) (fresh (suc n)) (parts (numberedDepth (suc n)) E row)
-      ∙ sym (parts-map (numberedDepth (suc n)) (depth (suc n)) (aside (suc n)) E row (same-depths (depth (suc n)) (aside (suc n)) row)))
-
-  -- The tree with the new entries, page numbers aside.
-  pub insertNumberedTree-aside : (fresh : ℕ → List ℕ) (new : Replacement) (bs : List ℕ) (t : NumberedTree) → treeAside (insertNumberedTree E fresh new bs t) ≡ insertTree E new bs (treeAside t)
-  insertNumberedTree-aside fresh new bs t =
-      let xs : List (Numbered (suc (t .0))) = insertNumbered E fresh new (suc (t .0)) bs 0 (t .1) in
-      growNumbered-aside fresh (length xs) (t .0) xs
-      ∙ ap (λ (k : ℕ). grow E k (t .0) (map (aside (suc (t .0))) xs)) (sym (length-map xs (aside (suc (t .0)))))
-      ∙ ap (grown E (t .0)) (insertNumbered-aside E new fresh (suc (t .0)) bs 0 (t .1))
-
   -- Only the numbers of the levels above n are looked at.
   pub growNumbered-ext : (f g : ℕ → List ℕ) (fuel n : ℕ) (xs : List (Numbered (suc n))) → ((k : ℕ) → n < k → f k ≡ g k) → growNumbered E f fuel n xs ≡ growNumbered E g fuel n xs
   growNumbered-ext f g zero n [] h = refl

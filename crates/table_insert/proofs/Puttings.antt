@@ -28,16 +28,18 @@ use Rattle.index_table.specs.Pages.{pagesAt, leafOf, nodeAt, numberedAt, treeAt
 use Rattle.index_table.specs.Soundness.{SoundBelow}
 use Rattle.index_table.specs.Standing.{Owned}
 use Rattle.index_table.specs.declared.layout.Root.{Root}
+use Rattle.index_table.specs.Storing.{newLeaves}
 use Rattle.index_table.proofs.SoundNodes.{sound-tree, tree-root-rule, tree-depth}
 use Rattle.index_table.proofs.NumberedPages.{numbered-aside, numbereds-aside, tree-aside}
 use Rattle.index_table.proofs.UsedPages.{used-tree}
 use Rattle.index_table.proofs.StandingLaws.{stands-owned}
 use Rattle.table_search.specs.Places.{leftFrom, NextPosition}
-use Rattle.table_insert.specs.Inserting.{newLeaves, pageRef, Replaced, InsertPre}
+use Rattle.table_insert.specs.Inserting.{pageRef, Replaced, InsertPre}
 use Rattle.table_insert.specs.NewRoots.{rootsAt, GrowPre, GrowPost}
 use Rattle.table_insert.specs.Putting.{PutPre, PutPost}
-use Rattle.table_insert.proofs.NumberedInsertion.{same-depths, insertNumbered-aside, insertNumbered-ext}
-use Rattle.table_insert.proofs.NumberedGrowth.{growNumbered-ext, insertNumberedTree-aside}
+use Rattle.page_tree.proofs.NumberedLaws.{insert-aside, insertTree-aside}
+use Rattle.table_insert.proofs.NumberedInsertion.{same-depths, insertNumbered-ext}
+use Rattle.table_insert.proofs.NumberedGrowth.{growNumbered-ext}
 use Rattle.table_insert.proofs.InsertSteps.{still-free}
 
 -- The depth of an entry, said twice.
@@ -122,7 +124,7 @@ module _ {b : List ℕ} {e P level root w key : ℕ} {news : Row} (pre : PutPre 
       nodes₁ =
           sym (numbereds-aside 65535 (pagesAt L b₁) (suc level) (rowOf parts))
           ∙ ap (map (aside (suc level))) numbers₁
-          ∙ insertNumbered-aside e (newLeaves news) (h .fresh) (suc level) bs 0 (numberedAt 65535 (suc level) (pagesAt L b) (0, root))
+          ∙ insert-aside e (h .fresh) (newLeaves news) (suc level) bs 0 (numberedAt 65535 (suc level) (pagesAt L b) (0, root))
           ∙ ap (insertBelow e (newLeaves news) (suc level) bs 0) (numbered-aside 65535 (pagesAt L b) (suc level) (0, root))
 
       last₁ : lastDepth depthOf 0 (rowOf parts) ≡ lastDepth depthOf 0 (pagesAt L b root)
@@ -184,7 +186,7 @@ module _ {b : List ℕ} {e P level root w key : ℕ} {news : Row} (pre : PutPre 
         aside₂ =
             sym (tree-aside 65535 (pagesAt L b₂) (r .level) (r .page .0))
             ∙ ap treeAside tree₂
-            ∙ insertNumberedTree-aside e fresh₂ (newLeaves news) bs (numberedTreeAt 65535 (pagesAt L b) level root)
+            ∙ insertTree-aside e fresh₂ (newLeaves news) bs (numberedTreeAt 65535 (pagesAt L b) level root)
             ∙ ap (insertTree e (newLeaves news) bs) (tree-aside 65535 (pagesAt L b) level root)
 
         rule₂ : 1 ≤ r .level → 2 ≤ length (pagesAt L b₂ (r .page .0))

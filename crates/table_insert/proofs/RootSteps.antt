@@ -33,7 +33,8 @@ use Rattle.index_table.proofs.StandingLaws.{stands-none, stands-owned}
 use Rattle.table_insert.specs.Placing.{owned, PlacePre, PlacePost}
 use Rattle.table_insert.specs.NewRoots.{rootsAt, GrowPre, GrowPost}
 use Rattle.table_insert.proofs.PlacedTrees.{placed-closed, placed-fits, placed-stands, placed-numbered}
-use Rattle.table_insert.proofs.NumberedInsertion.{under-aside, same-depths}
+use Rattle.page_tree.proofs.NumberedLaws.{under-aside}
+use Rattle.table_insert.proofs.NumberedInsertion.{same-depths}
 use Rattle.table_insert.proofs.NumberedGrowth.{grow-level, growNumbered-ext, grownNumbered-again}
 use Rattle.table_insert.proofs.InsertSteps.{still-free, withLevel, withLevel-free}
 

@@ -13,11 +13,8 @@ use Rattle.page_tree.specs.declared.Row.{Row}
 use Rattle.index_table.specs.Layout.{layoutOf, Ref, Within, Fitting}
 use Rattle.index_table.specs.Pages.{pagesAt, leafOf, nodeAt, numberedAt, met, inUse, usedPages}
 use Rattle.index_table.specs.Standing.{Owned, Stands}
+use Rattle.index_table.specs.Storing.{newLeaves}
 use Rattle.table_search.specs.Places.{leftFrom, DescendPre}
-
--- The entries of a row stand in the place of the entry found, whatever it is.
-abbrev pub newLeaves : Row → Replacement
-newLeaves news bs τ x = map (leafOf 65535) (rowOf news)
 
 -- The page as an entry, with the depth that closes it.
 abbrev pub pageRef : ℕ → List ℕ → ℕ → Ref

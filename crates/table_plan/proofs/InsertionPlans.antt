@@ -15,10 +15,11 @@ use Rattle.page_tree.specs.declared.Row.{Row}
 use Rattle.page_tree.proofs.InsertionPages.{insertBelow-pages}
 use Rattle.index_table.specs.Layout.{layoutOf}
 use Rattle.index_table.specs.Pages.{pagesAt, nodeAt, rootRef}
+use Rattle.index_table.specs.Storing.{newLeaves}
 use Rattle.table_search.specs.Places.{leftFrom, NextPosition}
 use Rattle.table_plan.specs.declared.Plan.{Plan}
 use Rattle.table_plan.specs.declared.Outcome.{Outcome}
-use Rattle.table_plan.specs.Plans.{newLeaves, PlanPre, PlanPost, pageParts}
+use Rattle.table_plan.specs.Plans.{PlanPre, PlanPost, pageParts}
 use Rattle.table_plan.specs.Outcomes.{RootsPre, Grown, RootsPost, tableTree, treeWith, OutcomePre, OutcomePost}
 
 module _ {b : List ℕ} {e P level root w key : ℕ} {news : Row} (pre : OutcomePre b e P level root w key news) where

@@ -30,14 +30,14 @@ use Rattle.page_tree.proofs.InsertionSound.{Fits, insertBelow-inPlace}
 use Rattle.index_table.specs.Layout.{Ref, layoutOf, pageBytes, refAt}
 use Rattle.index_table.specs.Pages.{pagesAt, leafOf, nodeAt}
 use Rattle.index_table.specs.Soundness.{SoundBelow}
-use Rattle.index_table.specs.Storing.{splicedAt}
+use Rattle.index_table.specs.Storing.{newLeaves, splicedAt}
 use Rattle.index_table.proofs.SoundNodes.{sound-depth, sound-depths, sound-node}
 use Rattle.table_search.specs.declared.Spot.{Spot}
 use Rattle.table_search.specs.Places.{later, leftFrom, Stopped}
 use Rattle.table_search.proofs.Stops.{read-entry}
 use Rattle.table_search.proofs.Descents.{descend-within, descend-walk, descend-step, descend-child}
 use Rattle.table_plan.specs.declared.Plan.{Plan}
-use Rattle.table_plan.specs.Plans.{newLeaves, PartsPre, PartsPost, PlanPre, PlanPost, freshPages}
+use Rattle.table_plan.specs.Plans.{PartsPre, PartsPost, PlanPre, PlanPost, freshPages}
 use Rattle.table_plan.proofs.SameDepths.{same-last, same-lasts, same-parts}
 use Rattle.table_plan.proofs.SplicedRows.{last-at}
 

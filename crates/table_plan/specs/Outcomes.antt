@@ -14,8 +14,8 @@ use Rattle.page_tree.specs.declared.Row.{Row}
 use Rattle.index_table.specs.Layout.{layoutOf}
 use Rattle.index_table.specs.Pages.{pagesAt, treeAt}
 use Rattle.index_table.specs.Standing.{TreeTable}
+use Rattle.index_table.specs.Storing.{newLeaves}
 use Rattle.table_plan.specs.declared.Outcome.{Outcome}
-use Rattle.table_plan.specs.Plans.{newLeaves}
 
 -- The parts of a root of a level.
 pub record RootsPre (e level : ℕ) (row : Row) : Type 0 where

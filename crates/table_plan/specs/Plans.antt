@@ -13,12 +13,9 @@ use Rattle.page_tree.specs.OnPages.{Replacement, insertBelow, pagesBelow}
 use Rattle.page_tree.specs.declared.Row.{Row}
 use Rattle.index_table.specs.Layout.{Ref, Within, layoutOf}
 use Rattle.index_table.specs.Pages.{pagesAt, leafOf, nodeAt}
+use Rattle.index_table.specs.Storing.{newLeaves}
 use Rattle.table_search.specs.Places.{leftFrom, DescendPre}
 use Rattle.table_plan.specs.declared.Plan.{Plan}
-
--- The entries of a row in the place of the entry found, whichever it is.
-abbrev pub newLeaves : Row → Replacement
-newLeaves news bs τ x = map (leafOf 65535) (rowOf news)
 
 -- The row r has the last depth of each part of a row, 1 to 65 of them.
 pub record LastDepths (e : ℕ) (row r : Row) : Type 0 where

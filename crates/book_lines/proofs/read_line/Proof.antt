@@ -31,9 +31,12 @@ two-fields-requires c κs = search needs
 
 returns-3 : tie.Need-returns-3
 returns-3 c =
+    let rest = c .before .before in
+    let whole = rest .before .before .before .before in
     c .two-fields .ensures
     ∙ sym
-    (says-two _ (c .before .before .before .before .before .before .before .if1 .left) _ (c .before .before .before .before .before .before .field-end .ensures) (c .before .before .before .before .before .if2 .left) _ _ (c .before .before .before .before .first-bytes .ensures) (c .before .before .before .bytes-after .ensures) _ (c .before .before .field-end2 .ensures) (c .before .if3 .taken))
+    (says-two _ (whole .before .if1 .left) _ (whole .field-end .ensures) (rest .before .before .before .if2 .left) _ _ (rest .before .before .first-bytes .ensures)
+    (rest .before .bytes-after .ensures) _ (rest .field-end2 .ensures) (c .before .if3 .taken))
 
 first-bytes-requires-2 : tie.Need-first-bytes-requires-2
 first-bytes-requires-2 c κs = search needs
@@ -52,14 +55,24 @@ three-fields-requires c κs = search needs
 
 returns-4 : tie.Need-returns-4
 returns-4 c =
+    let third = c .before .before in
+    let rest = third .before .before .before .before in
+    let whole = rest .before .before .before .before in
     c .three-fields .ensures
     ∙ sym
-    (says-three _ (c .before .before .before .before .before .before .before .before .before .before .before .if1 .left) _ (c .before .before .before .before .before .before .before .before .before .before .field-end .ensures) (c .before .before .before .before .before .before .before .before .before .if2 .left) _ _ (c .before .before .before .before .before .before .before .before .first-bytes .ensures) (c .before .before .before .before .before .before .before .bytes-after .ensures) _ (c .before .before .before .before .before .before .field-end2 .ensures) (c .before .before .before .before .before .if3 .left) _ _ (c .before .before .before .before .first-bytes2 .ensures) (c .before .before .before .bytes-after2 .ensures) _ (c .before .before .field-end3 .ensures) (c .before .if4 .taken))
+    (says-three _ (whole .before .if1 .left) _ (whole .field-end .ensures) (rest .before .before .before .if2 .left) _ _ (rest .before .before .first-bytes .ensures)
+    (rest .before .bytes-after .ensures) _ (rest .field-end2 .ensures) (third .before .before .before .if3 .left) _ _ (third .before .before .first-bytes2 .ensures)
+    (third .before .bytes-after2 .ensures) _ (third .field-end3 .ensures) (c .before .if4 .taken))
 
 returns-5 : tie.Need-returns-5
 returns-5 c =
+    let third = c .before in
+    let rest = third .before .before .before .before in
+    let whole = rest .before .before .before .before in
     sym
-    (says-more _ (c .before .before .before .before .before .before .before .before .before .before .if1 .left) _ (c .before .before .before .before .before .before .before .before .before .field-end .ensures) (c .before .before .before .before .before .before .before .before .if2 .left) _ _ (c .before .before .before .before .before .before .before .first-bytes .ensures) (c .before .before .before .before .before .before .bytes-after .ensures) _ (c .before .before .before .before .before .field-end2 .ensures) (c .before .before .before .before .if3 .left) _ _ (c .before .before .before .first-bytes2 .ensures) (c .before .before .bytes-after2 .ensures) _ (c .before .field-end3 .ensures) (c .if4 .left))
+    (says-more _ (whole .before .if1 .left) _ (whole .field-end .ensures) (rest .before .before .before .if2 .left) _ _ (rest .before .before .first-bytes .ensures)
+    (rest .before .bytes-after .ensures) _ (rest .field-end2 .ensures) (third .before .before .before .if3 .left) _ _ (third .before .before .first-bytes2 .ensures)
+    (third .before .bytes-after2 .ensures) _ (third .field-end3 .ensures) (c .if4 .left))
 
 pub read-line-spec : {M : Type 1} → statement M
 read-line-spec =

@@ -25,7 +25,9 @@ on-line-requires c κs = subst (λ (w : Number). recordAtMost 99999 w) (sym (c .
 
 returns : tie.Need-returns
 returns c =
-    c .on-line .ensures ∙ ap₂ onLine (c .before .before .read-tag .ensures) (c .before .read-record .ensures) ∙ sym (says-on _ _ _ _ (c .before .before .before .before .same-bytes .ensures) (c .before .before .before .if1 .taken))
+    let verb = c .before .before .before in
+    c .on-line .ensures ∙ ap₂ onLine (c .before .before .read-tag .ensures) (c .before .read-record .ensures)
+    ∙ sym (says-on _ _ _ _ (verb .before .same-bytes .ensures) (verb .if1 .taken))
 
 slice-aggregate-same-bytes-2 : tie.Need-slice-aggregate-same-bytes-2
 slice-aggregate-same-bytes-2 c = search needs
@@ -44,11 +46,15 @@ list-line-requires c κs = search needs
 
 returns-2 : tie.Need-returns-2
 returns-2 c =
+    let verb = c .before .before .before in
+    let other = verb .before .before .before in
     c .list-line .ensures ∙ ap₂ listLine (c .before .before .read-tag2 .ensures) (c .before .read-tag3 .ensures)
-    ∙ sym (says-list _ _ _ _ (c .before .before .before .before .before .before .before .same-bytes .ensures) (c .before .before .before .before .before .before .if1 .left) _ (c .before .before .before .before .same-bytes2 .ensures) (c .before .before .before .if2 .taken))
+    ∙ sym (says-list _ _ _ _ (other .before .same-bytes .ensures) (other .if1 .left) _ (verb .before .same-bytes2 .ensures) (verb .if2 .taken))
 
 returns-3 : tie.Need-returns-3
-returns-3 c = sym (says-none _ _ _ _ (c .before .before .before .before .same-bytes .ensures) (c .before .before .before .if1 .left) _ (c .before .same-bytes2 .ensures) (c .if2 .left))
+returns-3 c =
+    let other = c .before .before .before in
+    sym (says-none _ _ _ _ (other .before .same-bytes .ensures) (other .if1 .left) _ (c .before .same-bytes2 .ensures) (c .if2 .left))
 
 pub three-fields-spec : {M : Type 1} → statement M
 three-fields-spec =

@@ -20,7 +20,8 @@ off-line-requires c κs = search needs
 
 returns : tie.Need-returns
 returns c =
-    c .off-line .ensures ∙ ap offLine (c .before .read-tag .ensures) ∙ sym (says-off _ _ _ (c .before .before .before .same-bytes .ensures) (c .before .before .if1 .taken))
+    let verb = c .before .before in
+    c .off-line .ensures ∙ ap offLine (c .before .read-tag .ensures) ∙ sym (says-off _ _ _ (verb .before .same-bytes .ensures) (verb .if1 .taken))
 
 slice-aggregate-same-bytes-2 : tie.Need-slice-aggregate-same-bytes-2
 slice-aggregate-same-bytes-2 c = search needs
@@ -36,11 +37,15 @@ find-line-requires c κs = search needs
 
 returns-2 : tie.Need-returns-2
 returns-2 c =
+    let verb = c .before .before in
+    let other = verb .before .before .before in
     c .find-line .ensures ∙ ap findLine (c .before .read-tag2 .ensures)
-    ∙ sym (says-find _ _ _ (c .before .before .before .before .before .before .same-bytes .ensures) (c .before .before .before .before .before .if1 .left) _ (c .before .before .before .same-bytes2 .ensures) (c .before .before .if2 .taken))
+    ∙ sym (says-find _ _ _ (other .before .same-bytes .ensures) (other .if1 .left) _ (verb .before .same-bytes2 .ensures) (verb .if2 .taken))
 
 returns-3 : tie.Need-returns-3
-returns-3 c = sym (says-neither _ _ _ (c .before .before .before .before .same-bytes .ensures) (c .before .before .before .if1 .left) _ (c .before .same-bytes2 .ensures) (c .if2 .left))
+returns-3 c =
+    let other = c .before .before .before in
+    sym (says-neither _ _ _ (other .before .same-bytes .ensures) (other .if1 .left) _ (c .before .same-bytes2 .ensures) (c .if2 .left))
 
 pub two-fields-spec : {M : Type 1} → statement M
 two-fields-spec =

@@ -59,7 +59,10 @@ loop-again c =
     )
 
 returns-2 : tie.Need-returns-2 Inv-loop μ-loop
-returns-2 c = sym (number-end (c .before .before .before .args .base) (c .before .loop .value) (c .before .before .before .args .digits .now) (c .before .loop .i) (omega arith)) ∙ c .before .loop .inv .2
+returns-2 c =
+    let at = c .before .loop in
+    let start = c .before .before .before in
+    sym (number-end (start .args .base) (at .value) (start .args .digits .now) (at .i) (omega arith)) ∙ at .inv .2
 
 pub read-number-spec : {M : Type 1} → statement M
 read-number-spec =

@@ -28,7 +28,9 @@ shared-slice-read-if2-2 : tie.Need-shared-slice-read-if2-2 Inv-loop μ-loop
 shared-slice-read-if2-2 c = search needs
 
 returns-2 : tie.Need-returns-2 Inv-loop μ-loop
-returns-2 c = sym (same-not _ _ (c .before .before .before .before .loop .i) (omega arith) (omega arith) (c .if2 .taken)) ∙ c .before .before .before .before .loop .inv .2
+returns-2 c =
+    let at = c .before .before .before .before .loop in
+    sym (same-not _ _ (at .i) (omega arith) (omega arith) (c .if2 .taken)) ∙ at .inv .2
 
 add-i : tie.Need-add-i Inv-loop μ-loop
 add-i c = search needs
@@ -37,7 +39,9 @@ loop-less : tie.Need-loop-less Inv-loop μ-loop
 loop-less c = search needs
 
 loop-again : tie.Need-loop-again Inv-loop μ-loop
-loop-again c = (omega arith, omega arith, sym (same-more _ _ (c .before .before .before .before .loop .i) (omega arith) (omega arith) (c .if2 .left)) ∙ c .before .before .before .before .loop .inv .2)
+loop-again c =
+    let at = c .before .before .before .before .loop in
+    (omega arith, omega arith, sym (same-more _ _ (at .i) (omega arith) (omega arith) (c .if2 .left)) ∙ at .inv .2)
 
 returns-3 : tie.Need-returns-3 Inv-loop μ-loop
 returns-3 c = sym (same-end (c .before .before .before .args .field .now) (c .before .before .before .args .word .now) (c .before .loop .i) (omega arith) (omega arith)) ∙ c .before .loop .inv .2

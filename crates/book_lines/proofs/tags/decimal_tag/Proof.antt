@@ -30,10 +30,14 @@ pack-requires : tie.Need-pack-requires
 pack-requires c κs = search needs
 
 returns-3 : tie.Need-returns-3
-returns-3 c = sym (decimal-key _ _ _ _ (c .before .before .before .before .before .before .before .country .given .1) (c .before .before .before .before .national .given .1) _ (c .before .before .pack .ensures) (c .if1 .taken))
+returns-3 c =
+    let told = c .before .before .before .before in
+    sym (decimal-key _ _ _ _ (told .before .before .before .country .given .1) (told .national .given .1) _ (c .before .before .pack .ensures) (c .if1 .taken))
 
 returns-4 : tie.Need-returns-4
-returns-4 c = sym (decimal-refused _ _ _ _ (c .before .before .before .before .before .before .before .country .given .1) (c .before .before .before .before .national .given .1) _ (c .before .before .pack .ensures) (c .if1 .left))
+returns-4 c =
+    let told = c .before .before .before .before in
+    sym (decimal-refused _ _ _ _ (told .before .before .before .country .given .1) (told .national .given .1) _ (c .before .before .pack .ensures) (c .if1 .left))
 
 pub decimal-tag-spec : {M : Type 1} → statement M
 decimal-tag-spec =
