@@ -6,6 +6,7 @@ pub mod calls;
 pub mod list;
 pub mod met;
 pub mod numbers;
+pub mod program;
 pub mod same;
 pub mod supply;
 pub mod tag_code;

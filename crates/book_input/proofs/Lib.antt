@@ -1,0 +1,3 @@
+pub mod GatheredLines
+pub mod TakenBytes
+pub mod TakenPlaces
