@@ -2,7 +2,8 @@
 ghost use mathlib.Core.Path.{_≡_};
 ghost use Prim.Native.Nat.{_+_, _≤_};
 ghost use lib.ListN.{length};
-ghost use Rattle.daybook.specs.Progress.{Ready, WithRoom};
+ghost use Rattle.daybook.specs.Progress.{Ready, WithRoom, Answered};
+ghost use Rattle.day_book.specs.LineAnswers.{tables};
 use book_input::Taken;
 use libc::STDIN_FILENO;
 use libc::STDOUT_FILENO;
@@ -52,7 +53,7 @@ fn answer_held(
     progress: Progress,
 ) -> Progress
     requires { ⌜ WithRoom (now held) (now out) progress ⌝ }
-    ensures { λ r. ⌜ Ready (now (held .entry)) (now (out .exit)) r ⌝ }
+    ensures { λ r. ⌜ Answered (tables (now (index .entry)) (now (keys .entry)) (now (used .entry))) (now (held .entry)) (now (out .entry)) progress (tables (now (index .exit)) (now (keys .exit)) (now (used .exit))) (now (out .exit)) r ⌝ }
 {
     let filled = progress.filled;
     let length = progress.held;

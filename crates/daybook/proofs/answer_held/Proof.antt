@@ -1,13 +1,14 @@
 -- The line that is held stands at the front of the lent bytes, and its answer fits. Assumes nothing.
 use borrow.Author.Needs.{needs}
-use mathlib.Core.Path.{sym}
+use mathlib.Core.Path.{sym, refl}
 use native.Mathlib.Omega.{arith}
 use lib.Seq.{length-take-le}
+use Rattle.daybook.proofs.Answering.{answered}
 use Rattle.daybook.proofs.answer_held.Statement.{statement}
 use Rattle.daybook.proofs.answer_held.Tie as tie
 
 returns : tie.Need-returns
-returns c = search needs
+returns c = record { ready = search needs; none = refl; number = λ h. absurd (omega arith); does = λ h. absurd (omega arith); earlier = refl }
 
 slice-aggregate-answer-line : tie.Need-slice-aggregate-answer-line
 slice-aggregate-answer-line c = sym (length-take-le _ _ (omega (arith, c .before .before .before .before .before .before .before .before .before .before .pre .lent, c .before .before .before .before .before .before .before .before .before .before .pre .room)))
@@ -46,7 +47,7 @@ same-length-4 : tie.Need-same-length-4
 same-length-4 c = search needs
 
 returns-2 : tie.Need-returns-2
-returns-2 c = search needs
+returns-2 c = answered _ _ _ _ _ _ _ _ (c .before .before .before .before .before .before .before .before .before .before .before .before .before .before .before .before .before .before .before .before .pre) (c .before .before .before .before .before .before .before .before .answer-line .ensures)
 
 pub answer-held-spec : {M : Type 1} → statement M
 answer-held-spec =
