@@ -99,6 +99,9 @@ module _ {index keys used : List ℕ} (s : Sound index keys used) (key : ℕ) (n
         after = at .after;
         entryFound = at .entryFound ∙ ap (λ (f : List ℕ × ℕ × Entry). f .2 ∷ at .after) e;
         depthBefore = sym (ap (λ (f : List ℕ × ℕ × Entry). f .1) e) ∙ at .depthBefore;
+        first = position;
+        begins = p;
+        way = d .way;
       }
     where
       closed : Closed (depth 0) 0 (leafList w herd)

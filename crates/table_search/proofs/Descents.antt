@@ -18,11 +18,12 @@ use Rattle.page_tree.proofs.WalkPlaces.{positionsAfter, Stops, find-at}
 use Rattle.index_table.specs.Layout.{Ref, Within, layoutOf, pageBytes, refAt}
 use Rattle.index_table.specs.Pages.{pagesAt, nodeAt, recordOf}
 use Rattle.index_table.specs.Soundness.{SoundBelow}
+use Rattle.index_table.specs.declared.layout.PageNo.{PageNo}
 use Rattle.index_table.proofs.PageBytes.{within-table}
 use Rattle.index_table.proofs.SoundNodes.{sound-depths}
 use Rattle.table_search.specs.declared.Spot.{Spot}
 use Rattle.table_search.specs.declared.Leaf.{Leaf}
-use Rattle.table_search.specs.Places.{leftFrom, depthOf, SeekPre, Stopped, DescendPre, Descended}
+use Rattle.table_search.specs.Places.{leftFrom, depthOf, SeekPre, Stopped, DescendPre, Way, Descended}
 use Rattle.table_search.proofs.Stops.{read-entry}
 
 -- The depths of what stands above level 0 are depths of level 0.
@@ -134,15 +135,16 @@ module _ {b : List ℕ} {e P n page w key position : ℕ} (pre : DescendPre b e 
 
 -- On level 0 the entry is the answer.
 pub descend-leaf : {b : List ℕ} {e P page w key position τ : ℕ} (n : ℕ) (pre : DescendPre b e P n page w key position) (s : Spot) → Stopped w key position τ (pagesAt (layoutOf e) b page) s → n ≡ 0
-    → (d p : ℕ) → d ≡ refAt (layoutOf e) (pageBytes (layoutOf e) b page) (s .at) .0 → p ≡ refAt (layoutOf e) (pageBytes (layoutOf e) b page) (s .at) .1 → p ≤ 65535
-    → Descended w key position τ n (pagesAt (layoutOf e) b) page (record { depth = d; pointer = p; position = s .position; trail = s .trail })
+    → (own : PageNo) → own .0 ≡ page → (d p : ℕ) → d ≡ refAt (layoutOf e) (pageBytes (layoutOf e) b page) (s .at) .0 → p ≡ refAt (layoutOf e) (pageBytes (layoutOf e) b page) (s .at) .1 → p ≤ 65535
+    → Descended w key position τ n (pagesAt (layoutOf e) b) page (record { page = own; at = s .at; depth = d; pointer = p; position = s .position; trail = s .trail })
 unfolding nodeAt
-descend-leaf (suc n) pre s stop z d p hd hp l = absurd (omega arith)
-descend-leaf {b} {e} {P} {page} {w} {key} {position} {τ} zero pre s stop z d p hd hp l =
+descend-leaf (suc n) pre s stop z own ho d p hd hp l = absurd (omega arith)
+descend-leaf {b} {e} {P} {page} {w} {key} {position} {τ} zero pre s stop z own ho d p hd hp l =
     let q : refAt (layoutOf e) (pageBytes (layoutOf e) b page) (s .at) ≡ getD (pagesAt (layoutOf e) b page) (s .at) (0, 0) = read-entry (layoutOf e) b page (s .at) (stop .inside) in
     record {
       found = descend-step pre s stop ∙ ap (λ (x : Ref). (leftFrom w key (s .position), s .trail, entry (x .0) (recordOf 65535 (x .1)))) (sym q ∙ λ i. (sym hd i, sym hp i));
       pointer-high = l;
+      way = record { page-is = ho; place = stop; entry-is = sym q ∙ λ i. (sym hd i, sym hp i) };
     }
 
 -- Above it, the child is a page of the way down, and what is found below it is what is found.
@@ -175,6 +177,7 @@ module _ {b : List ℕ} {e P page w key position τ : ℕ} (n : ℕ) (pre : Desc
       record {
         found = descend-step pre s stop ∙ ap (λ (m : ℕ). findBelow (suc n) (leftFrom w key (s .position)) (s .trail) (nodeAt 65535 (suc n) (pagesAt (layoutOf e) b) (0, m))) (sym pointed) ∙ d .found;
         pointer-high = d .pointer-high;
+        way = (s, stop, subst (λ (m : ℕ). Way w key (pagesAt (layoutOf e) b) n m (s .position) (s .trail) r) pointed (d .way));
       }
 
 -- The same, from a level above 0 to the one below it.

@@ -3,7 +3,7 @@ use mathlib.Core.Path.{_≡_}
 use mathlib.Core.Bool.{cond}
 use mathlib.Core.Logic.{_⊎_}
 use mathlib.Core.List.{List, [], _∷_}
-use Prim.Native.Nat.{ℕ, suc, _+_, _^_, _≤_, _<_}
+use Prim.Native.Nat.{ℕ, zero, suc, _+_, _^_, _≤_, _<_}
 use lib.Dec.{leb}
 use lib.ListN.{length, getD, take, drop}
 use Rattle.leaf_list.specs.Keys.{bits}
@@ -76,9 +76,22 @@ pub record DescendPre (b : List ℕ) (e P n page w key position : ℕ) : Type 0 
   pub narrow : key < 2 ^ w
   pub high : position ≤ w + 1
 
+-- The place found in a page of level 0.
+pub record Ends (w key position τ page : ℕ) (row : List Ref) (r : Leaf) : Type 0 where
+  pub page-is : r .page .0 ≡ page
+  pub place : Stopped w key position τ row (record { at = r .at; position = r .position; trail = r .trail })
+  pub entry-is : getD row (r .at) (0, 0) ≡ (r .depth, r .pointer)
+
+-- The way from a page of level n down to the entry found: the place in each page, and the page below it.
+abbrev pub Way : ℕ → ℕ → Pages → ℕ → ℕ → ℕ → ℕ → Leaf → Type 0
+Way w key pages zero page position τ r = Ends w key position τ page (pages page) r
+Way w key pages (suc n) page position τ r =
+    (s : Spot) × Stopped w key position τ (pages page) s × Way w key pages n (getD (pages page) (s .at) (0, 0) .1) (s .position) (s .trail) r
+
 -- The entry that figure 6 finds below a page of level n, with the positions left and the depth before it.
 pub record Descended (w key position τ n : ℕ) (pages : Pages) (page : ℕ) (r : Leaf) : Type 0 where
   pub found :
       findBelow (suc n) (leftFrom w key position) τ (nodeAt 65535 (suc n) pages (0, page))
       ≡ (leftFrom w key (r .position), r .trail, entry (r .depth) (recordOf 65535 (r .pointer)))
   pub pointer-high : r .pointer ≤ 65535
+  pub way : Way w key pages n page position τ r

@@ -19,8 +19,10 @@ pub struct Spot {
     pub trail: u64,
 }
 
-// An entry on level 0, with the next position and the depth before it.
+// An entry on level 0: its page and its place there, what stands there, the next position and the depth before it.
 pub struct Leaf {
+    pub page: PageNo,
+    pub at: usize,
     pub depth: u64,
     pub pointer: u32,
     pub position: u64,
@@ -115,6 +117,8 @@ pub fn descend(
     let at = s.at;
     if level == 0 {
         return Leaf {
+            page,
+            at,
             depth: deep(depth(index, e, page, at)),
             pointer: pointer(index, e, page, at),
             position: s.position,

@@ -1,6 +1,6 @@
 -- Level by level: the page is searched, and on level 0 the entry is the answer. Assumes nothing.
 use borrow.Author.Needs.{needs}
-use mathlib.Core.Path.{_∙_}
+use mathlib.Core.Path.{refl, _∙_}
 use native.Mathlib.Omega.{arith}
 use Rattle.table_search.proofs.Descents.{descend-within, descend-seek, descend-inside, descend-leaf, descend-down, descend-up}
 use Prim.Native.Nat.{ℕ, _<_}
@@ -108,7 +108,7 @@ descend-returns : (t : ℕ) → descend-lts.Need-returns (
 ) (descend-at t) descend.Post
 descend-returns t c =
     let at = c .before .before .before .before in
-    descend-leaf _ (at .before .before .pre .1) _ (at .seek .ensures) (c .before .before .before .if1 .taken) _ _ (c .before .deep .ensures ∙ c .before .before .depth .ensures) (c .pointer .ensures .0) (c .pointer .ensures .1)
+    descend-leaf _ (at .before .before .pre .1) _ (at .seek .ensures) (c .before .before .before .if1 .taken) _ refl _ _ (c .before .deep .ensures ∙ c .before .before .depth .ensures) (c .pointer .ensures .0) (c .pointer .ensures .1)
 
 descend-child-requires : (t : ℕ) → descend-lts.Need-child-requires (
   seek-reads.Asked,
