@@ -2,8 +2,8 @@
 use native.Mathlib.Omega.{arith}
 use Rattle.table_check.proofs.WholeTree.{no-marks}
 use borrow.Author.Needs.{needs}
-use Rattle.table_check.proofs.root.tree_sound.Statement.{statement}
-use Rattle.table_check.proofs.root.tree_sound.Tie as tie
+use Rattle.table_check.proofs.root.large_tree_sound.Statement.{statement}
+use Rattle.table_check.proofs.root.large_tree_sound.Tie as tie
 
 slice-aggregate-tree-marked : tie.Need-slice-aggregate-tree-marked
 slice-aggregate-tree-marked c = search needs
@@ -14,5 +14,5 @@ tree-marked-requires c κs = (c .before .before .before .before .pre, omega arit
 returns : tie.Need-returns
 returns c = search needs
 
-pub tree-sound-spec : {M : Type 1} → statement M
-tree-sound-spec = tie.close (tie.spec slice-aggregate-tree-marked tree-marked-requires returns)
+pub large-tree-sound-spec : {M : Type 1} → statement M
+large-tree-sound-spec = tie.close (tie.spec slice-aggregate-tree-marked tree-marked-requires returns)
