@@ -2,8 +2,7 @@
 ghost use mathlib.Core.Path.{_≡_};
 ghost use Prim.Native.Nat.{_+_, _-_, _%_, _^_, _≤_, _<_};
 ghost use lib.Dec.{ltb};
-ghost use lib.ListN.{length};
-ghost use Rattle.index_table.specs.Layout.{Within, layoutOf, Ref};
+ghost use Rattle.index_table.specs.Layout.{layoutOf};
 ghost use Rattle.index_table.specs.Pages.{pagesAt};
 ghost use Rattle.table_search.specs.Places.{ahead, firstPosition, aheadOf, NextPosition, SeekPre, Stopped, DescendPre, Descended};
 use index_table::layout::PageNo;

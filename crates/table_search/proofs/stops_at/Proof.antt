@@ -2,7 +2,6 @@
 use borrow.Author.Needs.{needs}
 use mathlib.Core.Path.{ap}
 use lib.Dec.{ltb}
-use native.Mathlib.Omega.{arith}
 use Rattle.table_search.proofs.BitsAhead.{stops-first}
 use Rattle.table_search.proofs.stops_at.Statement.{statement}
 use Rattle.table_search.proofs.stops_at.Tie as tie

@@ -1,5 +1,4 @@
 -- A map of zeros, one byte for each of at most 1,024 pages. Assumes nothing.
-use native.Mathlib.Omega.{arith}
 use Rattle.table_check.proofs.WholeTree.{no-marks}
 use borrow.Author.Needs.{needs}
 use Rattle.table_check.proofs.root.small_tree_sound.Statement.{statement}
