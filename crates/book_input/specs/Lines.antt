@@ -34,3 +34,13 @@ linesOf (b ∷ s) = cond (eqb b 10) ([] ∷ linesOf s) (begunBefore (b ∷ []) (
 -- A line cut to its first 81 bytes: "A line over 80 bytes, newline not counted, is bad", whatever follows.
 abbrev pub cut : List ℕ → List ℕ
 cut line = take 81 line
+
+-- The whole lines that are met by reading bytes behind a line begun, each cut,
+unfoldable pub linesMet : List ℕ → List ℕ → List (List ℕ)
+linesMet begun [] = []
+linesMet begun (b ∷ s) = cond (eqb b 10) (begun ∷ linesMet [] s) (linesMet (cut (begun ++ b ∷ [])) s)
+
+-- and the line that is left without its newline.
+unfoldable pub leftOpen : List ℕ → List ℕ → List ℕ
+leftOpen begun [] = begun
+leftOpen begun (b ∷ s) = leftOpen (cond (eqb b 10) [] (cut (begun ++ b ∷ []))) s
