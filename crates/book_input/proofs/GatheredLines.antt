@@ -105,6 +105,11 @@ passes-behind {begun} {rest} {begun₁} {rest₁} {done} x a = record {
   opens = rw (open-behind begun rest x, open-behind begun₁ rest₁ x, a .opens);
 }
 
+-- So all lines, the last one without newline too, are those met on the way and all lines from there on.
+pub passes-all : {begun rest begun₁ rest₁ : List ℕ} {done : List (List ℕ)} → Passes begun rest done begun₁ rest₁
+    → linesMet begun rest ++ begunBefore (leftOpen begun rest) [] ≡ done ++ (linesMet begun₁ rest₁ ++ begunBefore (leftOpen begun₁ rest₁) [])
+passes-all {done = done} a = rw (a .met, a .opens, append-assoc)
+
 -- ---- one call
 
 -- A first line that has its newline.
