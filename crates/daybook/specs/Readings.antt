@@ -1,0 +1,45 @@
+-- What holds of the day book between two reads, and what is told to the library of a chunk. Assumes nothing.
+use mathlib.Core.Path.{_≡_}
+use mathlib.Core.Bool.{true}
+use mathlib.Core.List.{List, []}
+use Prim.Native.Nat.{ℕ, suc, _+_, _≤_}
+use lib.ListN.{length, take}
+use Rattle.tag_index.specs.Histories.{Tables, Feed}
+use Rattle.book_input.specs.Lines.{begunBefore, linesMet, leftOpen}
+use Rattle.day_book.specs.LineAnswers.{Told}
+use Rattle.book_chunks.specs.Chunks.{lastNumber}
+use Rattle.daybook.specs.declared.Reading.{Reading}
+
+-- 81 bytes are lent for a line, and at most these are held; the buffer has room for one answer at least.
+pub record Between (held out : List ℕ) (a : Reading) : Type 0 where
+  pub lent : length held ≡ 81
+  pub room : a .held ≤ 81
+  pub buffer : 256 ≤ length out
+
+-- There are numbers for all lines of a chunk, and one more.
+pub record PiecesReady (chunk held out : List ℕ) (a : Reading) : Type 0 where
+  pub between : Between held out a
+  pub numbers : suc (a .lines + length chunk) ≤ lastNumber
+
+-- The line begun.
+abbrev pub begunLine : List ℕ → Reading → List ℕ
+begunLine held a = take (a .held) held
+
+-- Each line that is met in the chunk is told to the library, once and in order; the line left open is held.
+pub record ChunkTold (t : Tables) (chunk held : List ℕ) (a : Reading) (u : Tables) (held₁ : List ℕ) (r : Reading) : Type 0 where
+  pub feeds : List Feed
+  pub printed : List ℕ
+  pub told : Told t (suc (a .lines)) (linesMet (begunLine held a) chunk) feeds printed u
+  pub counted : r .lines ≡ a .lines + length (linesMet (begunLine held a) chunk)
+  pub opens : begunLine held₁ r ≡ leftOpen (begunLine held a) chunk
+
+-- So it is, unless a write failed.
+pub record PiecesDo (t : Tables) (chunk held : List ℕ) (a : Reading) (u : Tables) (held₁ out₁ : List ℕ) (r : Reading) : Type 0 where
+  pub between : Between held₁ out₁ r
+  pub all : r .going ≡ true → ChunkTold t chunk held a u held₁ r
+
+-- A line without newline is told to the library, if it is not empty.
+pub record EndTells (t : Tables) (held : List ℕ) (a : Reading) (u : Tables) : Type 0 where
+  pub feeds : List Feed
+  pub printed : List ℕ
+  pub told : Told t (suc (a .lines)) (begunBefore (begunLine held a) []) feeds printed u
