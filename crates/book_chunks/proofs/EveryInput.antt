@@ -1,11 +1,11 @@
 -- Every input, in chunks of any sizes: what is written is a function of its lines and the ordered map (01, "Day-book program"). Assumes nothing.
-use mathlib.Core.Path.{_≡_, refl, sym, ap, subst, _∙_}
-use mathlib.Core.List.{List, [], _∷_, _++_, map, flatten, append-nil}
-use Prim.Native.Nat.{ℕ, suc, _+_, _≤_}
+use mathlib.Core.Path.{_≡_, sym, ap, subst, _∙_}
+use mathlib.Core.List.{List, [], _∷_, _++_, flatten}
+use Prim.Native.Nat.{ℕ, suc, _≤_}
 use native.Mathlib.Omega.{arith}
 use contract.Lifetimes.{Lfts}
 use denote.Ref.{RefT}
-use lib.ListN.{length, take, drop, drop-of-length-le}
+use lib.ListN.{length, take, drop-of-length-le}
 use Rattle.tag_index.specs.Histories.{Tables, Feed, emptyMap}
 use Rattle.tag_index.specs.Claims.{Agrees}
 use Rattle.tag_index.proofs.Runs.{Lent}

@@ -1,5 +1,5 @@
 -- Lines answered one after the other, on the way through a chunk. Assumes nothing.
-use mathlib.Core.Path.{_≡_, refl, sym, ap, subst, _∙_}
+use mathlib.Core.Path.{_≡_, refl, ap, subst, _∙_}
 use mathlib.Core.Bool.{true, false}
 use mathlib.Core.List.{List, [], _∷_, _++_, append-assoc, append-nil}
 use Prim.Native.Nat.{ℕ, suc, _+_, _-_, _≤_, _<_}
@@ -7,7 +7,7 @@ use native.Mathlib.Omega.{arith}
 use lib.ListN.{length, take, drop, length-drop, length-append, drop-of-length-le}
 use lib.Seq.{take-all, take-at, drop-at, drop-drop, take-add, length-take-le}
 use borrow.Rule.Slice.PartMut.{putMid, midOf, postOf}
-use Rattle.tag_index.specs.Histories.{Tables, Feed}
+use Rattle.tag_index.specs.Histories.{Tables}
 use Rattle.book_input.specs.declared.Taken.{Taken}
 use Rattle.book_input.specs.Lines.{begunBefore}
 use Rattle.book_input.specs.Gathering.{Takes}
@@ -15,10 +15,10 @@ use Rattle.book_input.proofs.TakenPlaces.{taken-inside, taken-onward, taken-roo
 use Rattle.book_input.proofs.GatheredLines.{passes-none, passes-both, takes-line, takes-part}
 use Rattle.book_lines.specs.Lines.{meaning}
 use Rattle.day_book.specs.Books.{shownLine, feedOfSaid}
-use Rattle.day_book.specs.LineAnswers.{LineDoes, Told, end}
+use Rattle.day_book.specs.LineAnswers.{LineDoes, end}
 use Rattle.day_book.proofs.ToldLines.{told-line, told-both}
 use Rattle.book_chunks.specs.declared.Progress.{Progress}
-use Rattle.book_chunks.specs.Chunks.{lastNumber, begun, unread, Ready, TurnReady, WithRoom, Answered, Settled, Passed, TurnDoes, ChunkDoes}
+use Rattle.book_chunks.specs.Chunks.{begun, Ready, TurnReady, WithRoom, Answered, Settled, Passed, TurnDoes, ChunkDoes}
 
 -- ---- lines answered
 

@@ -3,7 +3,6 @@ ghost use mathlib.Core.List.{[], _∷_};
 ghost use Rattle.book_input.specs.Lines.{begunBefore};
 ghost use Rattle.day_book.specs.LineAnswers.{tables};
 ghost use Rattle.book_chunks.specs.Chunks.{begun, Ready, TurnReady, WithRoom, Settled, TurnDoes, ChunkDoes};
-use book_input::Taken;
 
 // How far the day book has come: the lines answered, the bytes held of the line that is being read, the place in the chunk, and the bytes of answers in
 // `out`.

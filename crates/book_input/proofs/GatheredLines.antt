@@ -6,7 +6,7 @@ use Prim.Native.Nat.{ℕ, zero, suc, _≤_}
 use native.Mathlib.Omega.{arith}
 use lib.Dec.{eqb}
 use lib.ListN.{length, take, drop, length-take}
-use lib.Seq.{take-all, take-take, take-append-seam, drop-drop, drop-length}
+use lib.Seq.{take-all, take-take, take-append-seam, drop-drop}
 use Rattle.book_input.specs.declared.Taken.{Taken}
 use Rattle.book_input.specs.Lines.{upToNewline, hasNewline, behindNewline, begunBefore, linesOf, cut, linesMet, leftOpen}
 use Rattle.book_input.specs.Gathering.{Takes, Passes}

@@ -1,9 +1,9 @@
 -- The lines of an input (01, "Day-book program"). Assumes nothing.
 use mathlib.Core.Bool.{Bool, true, false, cond}
-use mathlib.Core.List.{List, [], _∷_, _++_, map}
-use Prim.Native.Nat.{ℕ, zero, suc}
+use mathlib.Core.List.{List, [], _∷_, _++_}
+use Prim.Native.Nat.{ℕ, suc}
 use lib.Dec.{eqb}
-use lib.ListN.{length, take}
+use lib.ListN.{take}
 
 -- The bytes before the first newline; all of them, if there is none.
 unfoldable pub upToNewline : List ℕ → List ℕ

@@ -9,7 +9,6 @@ use lib.Dec.{eqb, ltb}
 use lib.ListN.{length, take, drop, length-take}
 use lib.Seq.{take-all}
 use borrow.Author.Tests.{le-leb, lt-leb, ltb-true, ltb-false}
-use Rattle.book_lines.specs.declared.Said.{Said}
 use Rattle.book_lines.specs.declared.Said.the-variants as said
 use Rattle.book_lines.specs.Fields.{tab, inFront, cutAtTabs, fieldLength, FieldEnd}
 use Rattle.book_lines.specs.Lines.{

@@ -1,25 +1,25 @@
 -- Every day book: what is printed is a function of its lines and the ordered map (01, "Day-book program" and "Histories"). Assumes nothing.
 use mathlib.Core.Path.{_≡_, refl, sym, ap, ap₂, subst, _∙_}
-use mathlib.Core.Bool.{Bool, true}
+use mathlib.Core.Bool.{true}
 use mathlib.Core.List.{List, [], _∷_, _++_}
-use Prim.Native.Nat.{ℕ, suc, _≤_}
+use Prim.Native.Nat.{ℕ, suc}
 use contract.Lifetimes.{Lfts}
 use denote.Ref.{RefT}
 use lib.ListN.{length, take}
 use Rattle.table_calls.specs.declared.answer.Answer.{Answer}
 use Rattle.tag_index.specs.Format.{formatFits, FormatDoes}
-use Rattle.tag_index.specs.Histories.{Tables, on, off, find, list, Reply, OrderedMap, Sizes, sizesOf, Feed, nothingFed, feedOf, emptyMap, formats, mapReply}
+use Rattle.tag_index.specs.Histories.{Tables, Reply, OrderedMap, Sizes, sizesOf, Feed, nothingFed, emptyMap, formats}
 use Rattle.tag_index.specs.Claims.{Agrees}
 use Rattle.tag_index.proofs.EmptySound.{format-sound, format-lengths, format-width, format-empties}
 use Rattle.tag_index.proofs.Runs.{Lent}
-use Rattle.tag_index.proofs.MapSteps.{Holds, Step, on-does-step, off-does-step, find-does-step, list-does-step}
+use Rattle.tag_index.proofs.MapSteps.{Holds, on-does-step, off-does-step, find-does-step, list-does-step}
 use Rattle.tag_index.proofs.Histories.{agrees}
 use Rattle.tag_index.proofs.format.format.Reads as format-reads
 use Rattle.book_lines.specs.declared.Said.{Said}
 use Rattle.book_lines.specs.declared.Said.the-variants.{On, Off, Find, List as Lists, Bad, OutOfRange}
 use Rattle.book_lines.specs.Lines.{meaning}
-use Rattle.day_book.specs.Books.{Shown, numberAlone, findShown, slice, listShown, answerIn, sliceIn, mapShown, mapSaid, feedOfSaid, shownLine, printed, mapBehindLines}
-use Rattle.day_book.specs.LineAnswers.{tables, SaidShown, LineDoes, Told}
+use Rattle.day_book.specs.Books.{Shown, numberAlone, findShown, listShown, answerIn, sliceIn, mapShown, mapSaid, feedOfSaid, shownLine, printed, mapBehindLines}
+use Rattle.day_book.specs.LineAnswers.{SaidShown, LineDoes, Told}
 use Rattle.day_book.specs.LineAnswers as told
 use Rattle.day_book.proofs.answer_line.Reads as answer-line-reads
 

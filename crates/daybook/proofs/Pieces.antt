@@ -1,10 +1,10 @@
 -- A chunk in pieces: what is told to the library of all of them. Assumes nothing.
 use mathlib.Core.Path.{_≡_, refl, sym, ap, _∙_}
 use mathlib.Core.Bool.{Bool, true, false, cond}
-use mathlib.Core.List.{List, [], _∷_, _++_, append-nil}
+use mathlib.Core.List.{List, [], _++_, append-nil}
 use Prim.Native.Nat.{ℕ, suc, _+_, _-_, _≤_, _<_}
 use native.Mathlib.Omega.{arith}
-use lib.ListN.{length, take, drop, length-append, drop-of-length-le}
+use lib.ListN.{length, length-append, drop-of-length-le}
 use Rattle.tag_index.specs.Histories.{Tables, Feed}
 use Rattle.book_input.specs.Lines.{linesMet, leftOpen}
 use Rattle.book_input.specs.Gathering.{Passes}
@@ -12,10 +12,10 @@ use Rattle.book_input.proofs.GatheredLines.{passes-none, passes-both}
 use Rattle.day_book.specs.LineAnswers.{Told, end}
 use Rattle.day_book.proofs.ToldLines.{told-both}
 use Rattle.book_chunks.specs.declared.Progress.{Progress}
-use Rattle.book_chunks.specs.Chunks.{lastNumber, begun, unread, Ready, WithRoom, ChunkDoes, Settled}
+use Rattle.book_chunks.specs.Chunks.{begun, unread, Ready, ChunkDoes}
 use Rattle.book_chunks.proofs.EveryInput.{written}
 use Rattle.daybook.specs.declared.Reading.{Reading}
-use Rattle.daybook.specs.Readings.{Between, PiecesReady, begunLine, ChunkTold, PiecesDo, EndTells}
+use Rattle.daybook.specs.Readings.{PiecesReady, begunLine, PiecesDo, EndDoes, ReadDoes}
 
 -- The progress at the front of a chunk, and the reading behind it.
 abbrev pub atFront : Reading → Progress
@@ -102,3 +102,13 @@ pieces-end {chunk = chunk} {held = held} {held₁ = held₁} {a = a} {p = p} s o
         opens = sym (s .passes .opens ∙ rw (none, met-none (begun held₁ p) .1));
       };
     }
+
+-- ---- what a read gave
+
+-- Nothing at the end of the input, or a chunk.
+pub read-ends : {t u : Tables} {chunk held out₁ : List ℕ} {a r : Reading} → length chunk ≡ 0 → EndDoes t held a u out₁ r → ReadDoes t chunk held a u held out₁ r
+read-ends none does = record { between = does .between; tells = λ h. does .tells; stops = λ h. does .stops; all = λ some. absurd (omega arith) }
+
+pub read-chunk : {t u : Tables} {chunk held held₁ out₁ : List ℕ} {a r : Reading} → (length chunk ≡ 0 → ⊥) → PiecesDo t chunk held a u held₁ out₁ r
+    → ReadDoes t chunk held a u held₁ out₁ r
+read-chunk some does = record { between = does .between; tells = λ h. absurd (some h); stops = λ h. absurd (some h); all = λ h. does .all }

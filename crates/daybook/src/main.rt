@@ -1,8 +1,7 @@
 // The day book: each line of standard input is answered on standard output.
 ghost use mathlib.Core.Path.{_≡_};
-ghost use mathlib.Core.List.{[]};
 ghost use Rattle.day_book.specs.LineAnswers.{tables};
-ghost use Rattle.daybook.specs.Readings.{Between, PiecesReady, PiecesDo, EndTells};
+ghost use Rattle.daybook.specs.Readings.{Between, PiecesReady, PiecesDo, EndReady, EndDoes, ReadDoes};
 use book_chunks::Progress;
 use libc::STDIN_FILENO;
 use libc::STDOUT_FILENO;
@@ -64,9 +63,8 @@ fn answer_end(
     out: &mut [u8],
     reading: Reading,
 ) -> Reading
-    requires { ⌜ PiecesReady [] (now held) (now out) reading ⌝ }
-    ensures { λ r. ⌜ Between (now (held .entry)) (now (out .exit)) r ⌝ }
-    ensures { λ r. ⌜ EndTells (tables (now (index .entry)) (now (keys .entry)) (now (used .entry))) (now (held .entry)) reading (tables (now (index .exit)) (now (keys .exit)) (now (used .exit))) ⌝ }
+    requires { ⌜ EndReady (now held) (now out) reading ⌝ }
+    ensures { λ r. ⌜ EndDoes (tables (now (index .entry)) (now (keys .entry)) (now (used .entry))) (now (held .entry)) reading (tables (now (index .exit)) (now (keys .exit)) (now (used .exit))) (now (out .exit)) r ⌝ }
 {
     let begun = Progress {
         lines: reading.lines,
@@ -84,6 +82,25 @@ fn answer_end(
     }
 }
 
+// What a read gave is answered. If it gave nothing the input is at its end.
+fn answer_read(
+    index: &mut [u8],
+    keys: &mut [u64],
+    used: &mut [u8],
+    chunk: &[u8],
+    held: &mut [u8],
+    out: &mut [u8],
+    reading: Reading,
+) -> Reading
+    requires { ⌜ PiecesReady (now chunk) (now held) (now out) reading ⌝ }
+    ensures { λ r. ⌜ ReadDoes (tables (now (index .entry)) (now (keys .entry)) (now (used .entry))) (now (chunk .entry)) (now (held .entry)) reading (tables (now (index .exit)) (now (keys .exit)) (now (used .exit))) (now (held .exit)) (now (out .exit)) r ⌝ }
+{
+    if chunk.len() == 0 {
+        return answer_end(index, keys, used, held, out, reading);
+    }
+    answer_pieces(index, keys, used, chunk, held, out, reading)
+}
+
 // The day book ends where it is.
 fn ended(reading: Reading) -> Reading
     ensures { λ r. ⌜ r .held ≡ reading .held ⌝ }
@@ -95,7 +112,7 @@ fn ended(reading: Reading) -> Reading
     }
 }
 
-// Reads once, answers what came, and writes the answers. The end of the input ends the day book, and so does a failed read.
+// Reads once, and answers what came. A failed read ends the day book.
 fn answer_some(
     index: &mut [u8],
     keys: &mut [u64],
@@ -115,11 +132,8 @@ fn answer_some(
     if got < 0 {
         return ended(reading);
     }
-    if got == 0 {
-        return answer_end(index, keys, used, held, out, reading);
-    }
     let n = io::count(got, &chunk);
-    answer_pieces(index, keys, used, &chunk[..n], held, out, reading)
+    answer_read(index, keys, used, &chunk[..n], held, out, reading)
 }
 
 // All of the input, chunk after chunk. A proved loop has to end, and nothing says that the input does: so the turns are counted down from a number

@@ -1,7 +1,6 @@
 -- Between two reads the claim is the same; the turns are counted down. Assumes nothing.
 use borrow.Author.Needs.{needs}
 use mathlib.Core.Path.{_≡_, refl}
-use native.Mathlib.Omega.{arith}
 use lib.ListN.{length}
 use Rattle.daybook.specs.Readings.{Between}
 use Rattle.daybook.proofs.answer_all.Statement.{statement}
