@@ -1,20 +1,19 @@
 -- The line that is held stands at the front of the lent bytes, and its answer fits. Assumes nothing.
 use borrow.Author.Needs.{needs}
-use mathlib.Core.Path.{sym, refl}
+use mathlib.Core.Path.{sym}
 use native.Mathlib.Omega.{arith}
 use lib.Seq.{length-take-le}
-use Rattle.daybook.proofs.Answering.{answered}
-use Rattle.daybook.proofs.answer_held.Statement.{statement}
-use Rattle.daybook.proofs.answer_held.Tie as tie
+use Rattle.book_chunks.proofs.Passing.{held-settled}
+use Rattle.book_chunks.proofs.answer_held.Statement.{statement}
+use Rattle.book_chunks.proofs.answer_held.Tie as tie
 
-returns : tie.Need-returns
-returns c = record { ready = search needs; none = refl; number = λ h. absurd (omega arith); does = λ h. absurd (omega arith); earlier = refl }
+add-number : tie.Need-add-number
+add-number c = search needs
 
 slice-aggregate-answer-line : tie.Need-slice-aggregate-answer-line
-slice-aggregate-answer-line c = sym (length-take-le _ _ (omega (arith, c .before .before .before .before .before .before .before .before .before .before .pre .lent, c .before .before .before .before .before .before .before .before .before .before .pre .room)))
-
-add-answer-line : tie.Need-add-answer-line
-add-answer-line c = search needs
+slice-aggregate-answer-line c =
+    let pre = c .before .before .before .before .before .before .before .before .before .before .pre in
+    sym (length-take-le _ _ (omega (arith, pre .lent, pre .room)))
 
 sub-answer-line : tie.Need-sub-answer-line
 sub-answer-line c = search needs
@@ -31,9 +30,6 @@ answer-line-requires c κs = search needs
 add-t20 : tie.Need-add-t20
 add-t20 c = search needs
 
-add-t22 : tie.Need-add-t22
-add-t22 c = search needs
-
 same-length : tie.Need-same-length
 same-length c = search needs
 
@@ -46,24 +42,24 @@ same-length-3 c = search needs
 same-length-4 : tie.Need-same-length-4
 same-length-4 c = search needs
 
-returns-2 : tie.Need-returns-2
-returns-2 c = answered _ _ _ _ _ _ _ _ (c .before .before .before .before .before .before .before .before .before .before .before .before .before .before .before .before .before .before .before .before .pre) (c .before .before .before .before .before .before .before .before .answer-line .ensures)
+returns : tie.Need-returns
+returns c =
+    let called = c .before .before .before .before .before .before .before .before in
+    held-settled _ _ _ _ _ _ _ (called .before .before .before .before .before .before .before .before .before .before .before .before .pre) (called .answer-line .ensures)
 
 pub answer-held-spec : {M : Type 1} → statement M
 answer-held-spec =
     tie.close
     (tie.spec
-    returns
+    add-number
     slice-aggregate-answer-line
-    add-answer-line
     sub-answer-line
     part-answer-line-start
     part-answer-line-end
     answer-line-requires
     add-t20
-    add-t22
     same-length
     same-length-2
     same-length-3
     same-length-4
-    returns-2)
+    returns)
