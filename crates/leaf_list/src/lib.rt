@@ -18,7 +18,7 @@ pub fn bit_is_set(w: u64, key: u64, p: u64) -> bool
     requires { ⌜ (w ≤ 64) × (0 < p) × (p ≤ w) ⌝ }
     ensures { λ r. ⌜ r ≡ bitAt w p key ⌝ }
 {
-    (key >> (w - p)) % 2 == 1
+    key & bit(w, p) != 0
 }
 
 // The first bit where two keys of w bits differ.
