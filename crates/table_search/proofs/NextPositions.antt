@@ -6,19 +6,15 @@ use mathlib.Core.List.{List, [], _∷_}
 use Prim.Native.Nat.{ℕ, zero, suc, _+_, _-_, _*_, _/_, _%_, _^_, _≤_, _<_}
 use native.Mathlib.Omega.{arith}
 use native.Mathlib.Numerals.{one-add}
-use native.Mathlib.Nat.{one-mul, suc-mul, zero-mul, mod-lt, eq-or-lt-of-le, le-of-suc-le-suc, lt-of-lt-of-le, lt-of-not-le, not-le-of-lt}
+use native.Mathlib.Nat.{suc-mul, zero-mul, mod-lt, eq-or-lt-of-le, le-of-suc-le-suc, lt-of-lt-of-le, lt-of-not-le, not-le-of-lt}
 use lib.Dec.{eqb}
 use lib.Count.{leadingZeros, leading-top}
-use lib.Pow.{pow-pos, pow-mono, mod-pow-add, shl-exact}
+use lib.Pow.{pow-pos, pow-mono, mod-pow-add}
 use lib.ListN.{drop}
 use borrow.Author.Tests.{le-leb, lt-leb}
 use Rattle.leaf_list.specs.Keys.{bits}
 use Rattle.leaf_list.specs.Search.{positions}
 use Rattle.table_search.specs.Places.{NextPosition}
-
--- A one shifted up is a power of two.
-pub power : (n : ℕ) → n < 64 → 1 * 2 ^ n % 2 ^ 64 ≡ 2 ^ n
-power n h = shl-exact 1 n 64 (omega arith) (omega arith) ∙ one-mul (2 ^ n)
 
 -- The bits behind the first p are the last of the number.
 pub drop-bits : (p w x : ℕ) → p ≤ w → drop p (bits w x) ≡ bits (w - p) x

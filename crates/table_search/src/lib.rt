@@ -11,6 +11,7 @@ use index_table::layout::count;
 use index_table::layout::depth;
 use index_table::layout::pointer;
 use index_table::layout::wide;
+use leaf_list::bit;
 
 // A place in a page: the entry, the next position, and the depth before the entry.
 pub struct Spot {
@@ -27,14 +28,6 @@ pub struct Leaf {
     pub pointer: u32,
     pub position: u64,
     pub trail: u64,
-}
-
-// Bit p of a number of w bits.
-fn bit(w: u64, p: u64) -> u64
-    requires { ⌜ (w ≤ 64) × (0 < p) × (p ≤ w) ⌝ }
-    ensures { λ r. ⌜ r ≡ 2 ^ (w - p) ⌝ }
-{
-    1u64 << (w - p)
 }
 
 // The bits of a key of w bits behind the first p.

@@ -1,9 +1,9 @@
--- A one shifted up. Assumes nothing.
+-- `leaf_list::bit` meets its contract. Assumes nothing.
 use borrow.Author.Needs.{needs}
 use native.Mathlib.Omega.{arith}
-use Rattle.table_search.proofs.NextPositions.{power}
-use Rattle.table_search.proofs.bit.Statement.{statement}
-use Rattle.table_search.proofs.bit.Tie as tie
+use Rattle.leaf_list.proofs.KeyLaws.{power}
+use Rattle.leaf_list.proofs.bit.Statement.{statement}
+use Rattle.leaf_list.proofs.bit.Tie as tie
 
 sub-result : tie.Need-sub-result
 sub-result c = search needs
