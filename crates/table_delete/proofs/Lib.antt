@@ -11,3 +11,5 @@ pub mod SoundLinks
 pub mod SweepTurns
 pub mod Sweeps
 pub mod TakingOut
+pub mod StayingEntries
+pub mod NearRows

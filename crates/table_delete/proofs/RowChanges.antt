@@ -23,7 +23,8 @@ use Rattle.table_delete.specs.Rows.{around, PutPost, settledPage, entryF
 pub put-none : (row : Row) (w : ℕ) (x : Remnant) → x .stays ≡ false → PutPost row w x (record { row = row; at = w })
 put-none row w x s = record { count = refl; full = refl; right = rw s refl; left = λ i h. refl; least = omega arith; most = omega arith }
 
-drop-set : (l : List Ref) (i : ℕ) (a : Ref) → i < length l → drop i (set l i a) ≡ a ∷ drop (suc i) l
+-- The entries from a place on, where another was put there.
+pub drop-set : (l : List Ref) (i : ℕ) (a : Ref) → i < length l → drop i (set l i a) ≡ a ∷ drop (suc i) l
 drop-set l i a h =
     drop-cons (set l i a) i (0, 0) (omega (arith, length-set l i a))
     ∙ ap₂ (λ (y : Ref) (r : List Ref). y ∷ r) (getD-set-same l i a (0, 0) h) (drop-set-lt (suc i) l i a (omega arith))

@@ -3,6 +3,7 @@ ghost use mathlib.Core.Path.{_≡_};
 ghost use Rattle.table_delete.specs.Taking.{LowerPre, LowerPost, TakePre, TakePost};
 
 pub mod entries;
+pub mod near;
 pub mod removal;
 pub mod rows;
 pub mod unwinding;
