@@ -66,11 +66,13 @@ joined-row row new first r i w l m z f g = record {
 pub settle-storable : (e : ℕ) (b : List ℕ) (p : ℕ) (done : Swept) → e ≤ 255 → SettlePre e b p done → Storable e b p (done .row) 0 (done .row .count)
 settle-storable e b p done l h = record { within = h .within; order = omega arith; places = omega (arith, h .few); few = omega (arith, h .few); fitting = rw (back-part (done .row) 0) (h .fitting) }
 
-page-some : (e level : ℕ) (l : List Ref) → 1 ≤ length l → settledPage e level l ≡ rowPage e level l
+-- A page with entries is settled by its row.
+pub page-some : (e level : ℕ) (l : List Ref) → 1 ≤ length l → settledPage e level l ≡ rowPage e level l
 page-some e level [] h = absurd (omega arith)
 page-some e level (x ∷ l) h = refl
 
-entry-some : (p d : ℕ) (l : List Ref) → 1 ≤ length l → d ≡ lastDepth depthOf 0 l → entryFor p l ≡ (d, p) ∷ []
+-- Its entry in the parent has the last depth.
+pub entry-some : (p d : ℕ) (l : List Ref) → 1 ≤ length l → d ≡ lastDepth depthOf 0 l → entryFor p l ≡ (d, p) ∷ []
 entry-some p d [] h g = absurd (omega arith)
 entry-some p d (x ∷ l) h g = rw (← g) refl
 
