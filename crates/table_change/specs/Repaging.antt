@@ -21,6 +21,8 @@ use Rattle.index_table.specs.Pages.{pagesAt, numberedTreeAt}
 use Rattle.index_table.specs.Soundness.{SoundPages, rootLevel, treeOf, numberedTreeOf, leafEntries}
 use Rattle.index_table.specs.Standing.{TreeTable}
 use Rattle.index_table.specs.Storing.{newLeaves}
+use Rattle.table_search.specs.declared.Leaf.{Leaf}
+use Rattle.table_search.specs.Places.{NextPosition, Way}
 use Rattle.table_change.specs.News.{foundFor}
 
 -- The index table as the change of pages needs it: its tree is sound, and a record more may be held.
@@ -42,10 +44,14 @@ pub record Repaged (index : List ℕ) (t : NumberedTree) (held : ℕ) (index₁ 
 
 -- ---- off
 
-pub record OffPagesPre (index : List ℕ) (key : ℕ) : Type 0 where
+pub record OffPagesPre (index : List ℕ) (key : ℕ) (leaf : Leaf) : Type 0 where
   pub changeable : Changeable index key
   pub beside : Neighbours (leafEntries index)
   pub some : 1 ≤ heldOf index
+  -- The way from the root to the entry found, begun at the key's first position.
+  pub first : ℕ
+  pub begins : NextPosition (widthOf index) key 0 first
+  pub way : Way (widthOf index) key (pagesAt (layoutOf (entriesOf index)) index) (rootLevel index) (rootOf index) first 0 leaf
 
 -- ---- on
 

@@ -81,13 +81,9 @@ module _ {e : ℕ} {b : List ℕ} {page at : ℕ} (h : FollowedPre e b page at) 
   abbrev after : List Ref
   after = drop (suc at) row
 
-  -- An entry of the page can be read,
+  -- The page can be read up to the entry behind.
   pub followed-read : (i : ℕ) → i ≤ suc at → Within (layoutOf e) b page × (i < e)
   followed-read i l = (let w = h .near .whole .few in let f = h .followed in (h .near .whole .within, omega (arith, w, f, l)))
-
-  -- and the entries before the place can be passed.
-  pub followed-staying : (n : ℕ) → n ≤ at → Within (layoutOf e) b page × (n ≤ length row) × (n ≤ e)
-  followed-staying n l = let w = h .near .whole .few in let f = h .followed in (h .near .whole .within, omega (arith, f, l), omega (arith, w, f, l))
 
   module _ {from n g : ℕ} (s : Staying row n g from) (some : from ≡ 0 → ⊥) where
     at-least : 1 ≤ from
@@ -177,12 +173,8 @@ module _ {e : ℕ} {b : List ℕ} {page at : ℕ} (h : NearPre e b page at) wher
   abbrev entries : List Ref
   entries = pagesAt (layoutOf e) b page
 
-  -- The page can be read at the place,
-  pub near-read : Within (layoutOf e) b page × (at < e)
-  near-read = let f = h .whole .few in let i = h .inside in (h .whole .within, omega (arith, f, i))
-
   module _ {k n : ℕ} (counted : k ≡ countOf (pageBytes (layoutOf e) b page)) (wide : n ≡ k) where
-    -- and behind it.
+    -- An entry behind it.
     pub near-followed : at + 1 < n → FollowedPre e b page at
     near-followed l = record { near = h; followed = omega (arith, l, counted, wide, length-refs (layoutOf e) (pageBytes (layoutOf e) b page)) }
 

@@ -1,16 +1,16 @@
 -- Removal where one page of level 0 changes alone: the root and its level stay. Assumes nothing.
-use mathlib.Core.Path.{_≡_, refl, sym, ap, subst, _∙_}
+use mathlib.Core.Path.{_≡_, refl, sym, ap, subst}
 use mathlib.Core.Bool.{true}
-use mathlib.Core.List.{List, [], _∷_}
-use Prim.Native.Nat.{ℕ, zero, suc, _+_, _≤_, _<_}
+use mathlib.Core.List.{List}
+use Prim.Native.Nat.{ℕ, zero, suc, _+_, _<_}
 use native.Mathlib.Omega.{arith}
 use native.Mathlib.Numerals.{add-one}
 use lib.ListN.{length}
 use Rattle.page_tree.specs.declared.Unwind.the-variants.{Idle}
 use Rattle.page_tree.specs.OffPages.{Left}
-use Rattle.page_tree.specs.Numbered.{Numbered, deleteNumbered}
-use Rattle.index_table.specs.Layout.{layoutOf, pageBytes, countOf}
-use Rattle.index_table.specs.Pages.{pagesAt, numberedAt, rootRef}
+use Rattle.page_tree.specs.Numbered.{Numbered}
+use Rattle.index_table.specs.Layout.{layoutOf, pageBytes}
+use Rattle.index_table.specs.Pages.{pagesAt, rootRef}
 use Rattle.index_table.specs.declared.layout.PageNo.{PageNo}
 use Rattle.index_table.specs.declared.layout.Root.{Root}
 use Rattle.index_table.proofs.NumberLaws.{Bytes}

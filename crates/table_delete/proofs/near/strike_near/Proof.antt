@@ -1,6 +1,6 @@
 -- Figure 11 at the entry, case by case. Assumes nothing.
 use native.Mathlib.Omega.{arith}
-use Rattle.table_delete.proofs.NearRows.{followed-read, strike-none, near-read, near-followed, strike-give, strike-clear, strike-dummy}
+use Rattle.table_delete.proofs.NearRows.{followed-read, strike-none, near-followed, strike-give, strike-clear, strike-dummy}
 use borrow.Author.Needs.{needs}
 use Rattle.table_delete.proofs.near.strike_near.Statement.{statement}
 use Rattle.table_delete.proofs.near.strike_near.Tie as tie
