@@ -27,10 +27,10 @@ use Rattle.index_table.specs.Standing.{TreeTable}
 use Rattle.index_table.specs.Storing.{newLeaves}
 use Rattle.index_table.proofs.SoundTables.{header-long, leaf-depths}
 use Rattle.table_search.specs.declared.Leaf.{Leaf}
-use Rattle.table_change.specs.Changes.{treeAfterOn, OnDone, HeldKey, OffDone}
+use Rattle.table_change.specs.Changes.{treeAfterOn, OnDone, OffDone}
 use Rattle.table_change.specs.Entries.{entriesIn}
 use Rattle.table_change.specs.News.{foundFor, NewsFor, NewKey}
-use Rattle.table_change.specs.Repaging.{Repaged, OnPages, treeWith, numberedWith}
+use Rattle.table_change.specs.Repaging.{HeldKey, Repaged, OnPages, treeWith, numberedWith}
 use Rattle.table_change.proofs.Rerooted.{after-length, after-header, after-sound, after-tree}
 use Rattle.table_change.proofs.SoundAfter.{numbered-tree, on-keeps-sound, off-keeps-sound}
 

@@ -20,9 +20,9 @@ use Rattle.index_table.proofs.SoundTables.{herd-narrow, herd-sorted, herd-held,
 use Rattle.table_search.specs.declared.Leaf.{Leaf}
 use Rattle.table_calls.specs.declared.answer.Answer.{Answer}
 use Rattle.table_calls.specs.Answers.{plain, withRecord, found}
-use Rattle.table_change.specs.Changes.{tooWide, isSome, isHeld, onRow, onRowOf, rowEight, rowSeven, OnDone, OnChanges, HeldKey, offRow, offRowOf, OffDone, OffChanges}
+use Rattle.table_change.specs.Changes.{tooWide, isSome, isHeld, onRow, onRowOf, rowEight, rowSeven, OnDone, OnChanges, offRow, offRowOf, OffDone, OffChanges}
 use Rattle.table_change.specs.News.{NewsFor, FreeRecord, NewKey}
-use Rattle.table_change.specs.Repaging.{Changeable, OffPagesPre, treeWith, lateRowWith, OnPagesPre, Roomy}
+use Rattle.table_change.specs.Repaging.{Changeable, HeldKey, OffPagesPre, treeWith, lateRowWith, OnPagesPre, Roomy}
 use Rattle.table_change.proofs.Changed.{held-high, tree-table, tree-after}
 use Rattle.table_change.proofs.SoundAfter.{found-record}
 

@@ -1,7 +1,8 @@
 // Off in sound tables.
 ghost use mathlib.Core.Path.{_≡_};
 ghost use Rattle.index_table.specs.Soundness.{Sound};
-ghost use Rattle.table_change.specs.Changes.{HeldKey, OffDone, OffChanges};
+ghost use Rattle.table_change.specs.Changes.{OffDone, OffChanges};
+ghost use Rattle.table_change.specs.Repaging.{HeldKey};
 use table_calls::answer::Answer;
 use table_search::Leaf;
 
