@@ -15,3 +15,6 @@ pub mod RowWriting
 pub mod StandingLaws
 pub mod NumberedPages
 pub mod LoadedRows
+pub mod PageParts
+pub mod PageChanges
+pub mod WholePages

@@ -7,3 +7,4 @@ pub mod Answers
 pub mod IndexNumbers
 pub mod Storing
 pub mod Standing
+pub mod Changing

@@ -1,4 +1,5 @@
 // The index table as bytes: its header and its pages.
+pub mod close;
 pub mod header;
 pub mod layout;
 pub mod rows;

@@ -26,10 +26,11 @@ use Rattle.index_table.specs.Soundness.{Sound, SoundPages, rootLevel, treeOf, n
 use Rattle.index_table.specs.Standing.{TreeTable}
 use Rattle.index_table.specs.Storing.{newLeaves}
 use Rattle.index_table.proofs.SoundTables.{header-long, leaf-depths}
-use Rattle.table_change.specs.Changes.{treeAfterOn, OnDone, HeldKey, OffDone}
+use Rattle.table_search.specs.declared.Leaf.{Leaf}
+use Rattle.table_change.specs.Changes.{treeAfterOn, OnDone, OffDone}
 use Rattle.table_change.specs.Entries.{entriesIn}
 use Rattle.table_change.specs.News.{foundFor, NewsFor, NewKey}
-use Rattle.table_change.specs.Repaging.{Repaged, OnPages, treeWith, numberedWith}
+use Rattle.table_change.specs.Repaging.{HeldKey, Repaged, OnPages, treeWith, numberedWith}
 use Rattle.table_change.proofs.Rerooted.{after-length, after-header, after-sound, after-tree}
 use Rattle.table_change.proofs.SoundAfter.{numbered-tree, on-keeps-sound, off-keeps-sound}
 
@@ -132,11 +133,11 @@ module _ {index keys : List ℕ} {key r : ℕ} {news : Row} (n : NewsFor index k
       (subst (λ (t : Tree). AgreeAt (newLeaves news) belonging (findIn (positions 0 (bits (widthOf index) key)) t)) (sym (numbered-tree index)) (n .entries))
 
 -- Off, from the pages that it leaves.
-pub off-taken : {index keys used : List ℕ} {key r : ℕ} {index₁ : List ℕ} → HeldKey index keys used key r
-    → Repaged index (offNumbered (widthOf index) key (numberedTreeOf index)) (heldOf index - 1) index₁ → OffDone index keys used key index₁ (set keys r 0) (set used r 0)
-off-taken {index} {keys} {used} {key} {r} {index₁} h p =
-    subst (λ (b : List ℕ). OffDone index keys used key b (set keys r 0) (set used r 0)) (sym (p .written))
-    (off-done (h .sound) (p .bytes) (p .level) (p .root) (p .long) (p .front) (p .pages) key r (h .narrow) (h .found) (p .tree))
+pub off-taken : {index keys used : List ℕ} {key : ℕ} {leaf : Leaf} {index₁ : List ℕ} → HeldKey index keys used key leaf
+    → Repaged index (offNumbered (widthOf index) key (numberedTreeOf index)) (heldOf index - 1) index₁ → OffDone index keys used key index₁ (set keys (leaf .pointer) 0) (set used (leaf .pointer) 0)
+off-taken {index} {keys} {used} {key} {leaf} {index₁} h p =
+    subst (λ (b : List ℕ). OffDone index keys used key b (set keys (leaf .pointer) 0) (set used (leaf .pointer) 0)) (sym (p .written))
+    (off-done (h .sound) (p .bytes) (p .level) (p .root) (p .long) (p .front) (p .pages) key (leaf .pointer) (h .narrow) (h .found) (p .tree))
 
 -- On, from the pages that it leaves.
 pub on-put : {index keys used : List ℕ} {key r : ℕ} {news : Row} {index₁ : List ℕ} → NewKey index keys used key r news → OnPages index key news index₁

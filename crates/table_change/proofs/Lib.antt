@@ -3,6 +3,7 @@ pub mod NewLeaves
 pub mod Rerooted
 pub mod SoundAfter
 pub mod FoundEntries
+pub mod Leaving
 pub mod Changed
 pub mod Repaged
 pub mod RowChoice

@@ -21,7 +21,8 @@ use Rattle.index_table.specs.Soundness.{rootLevel, treeOf, numberedTreeOf}
 use Rattle.index_table.proofs.PageBytes.{within-table}
 use Rattle.index_table.proofs.UsedPages.{used-tree}
 use Rattle.table_change.specs.Repaging.{Changeable, Repaged, OffPagesPre, treeWith, lateRowWith, OnPagesPre, Roomy, OnPages}
-use Rattle.table_delete.specs.Taking.{TakePre, TakePost}
+use Rattle.table_search.specs.declared.Leaf.{Leaf}
+use Rattle.table_delete.specs.Taking.{TakeAtPre, TakePost}
 use Rattle.table_insert.specs.Putting.{PutPre, PutPost}
 use Rattle.table_plan.specs.Outcomes.{OutcomePre, OutcomePost}
 use Rattle.table_plan.specs.declared.Outcome.{Outcome}
@@ -58,8 +59,10 @@ module _ {index : List ℕ} {key : ℕ} (c : Changeable index key) (h : Index) (
 
     -- ---- off
 
-    pub take-pre : OffPagesPre index key → TakePre index (h .entries) (h .pages) level (h .root .0) w key
-    take-pre o = rw (level-is, width-is, i .entries, i .pages, i .root) (record { tree = c .tree; narrow = c .narrow; beside = o .beside })
+    pub take-pre : (leaf : Leaf) → OffPagesPre index key leaf → TakeAtPre index (h .entries) (h .pages) level (h .root .0) w key leaf
+    take-pre leaf o =
+        rw (level-is, width-is, i .entries, i .pages, i .root)
+        (record { take = record { tree = c .tree; narrow = c .narrow; beside = o .beside }; first = o .first; begins = o .begins; way = o .way })
 
     pub off-repaged : (b : List ℕ) (r : Root) (rooted index₁ : List ℕ) → TakePost index (h .entries) (h .pages) level (h .root .0) w key b r
         → rooted ≡ withRoot b (r .page .0) → index₁ ≡ withHeld rooted (h .held - 1) → Repaged index (offNumbered (widthOf index) key (numberedTreeOf index)) (heldOf index - 1) index₁

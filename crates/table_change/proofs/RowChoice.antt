@@ -17,11 +17,12 @@ use Rattle.page_tree.specs.declared.Row.{Row}
 use Rattle.index_table.specs.Header.{widthOf, entriesOf, pagesOf, rootOf, heldOf, withRoot, withHeld}
 use Rattle.index_table.specs.Soundness.{Sound}
 use Rattle.index_table.proofs.SoundTables.{herd-narrow, herd-sorted, herd-held, in-use-inside}
+use Rattle.table_search.specs.declared.Leaf.{Leaf}
 use Rattle.table_calls.specs.declared.answer.Answer.{Answer}
 use Rattle.table_calls.specs.Answers.{plain, withRecord, found}
-use Rattle.table_change.specs.Changes.{tooWide, isSome, isHeld, onRow, onRowOf, rowEight, rowSeven, OnDone, OnChanges, HeldKey, offRow, offRowOf, OffDone, OffChanges}
+use Rattle.table_change.specs.Changes.{tooWide, isSome, isHeld, onRow, onRowOf, rowEight, rowSeven, OnDone, OnChanges, offRow, offRowOf, OffDone, OffChanges}
 use Rattle.table_change.specs.News.{NewsFor, FreeRecord, NewKey}
-use Rattle.table_change.specs.Repaging.{Changeable, OffPagesPre, treeWith, lateRowWith, OnPagesPre, Roomy}
+use Rattle.table_change.specs.Repaging.{Changeable, HeldKey, OffPagesPre, treeWith, lateRowWith, OnPagesPre, Roomy}
 use Rattle.table_change.proofs.Changed.{held-high, tree-table, tree-after}
 use Rattle.table_change.proofs.SoundAfter.{found-record}
 
@@ -56,10 +57,6 @@ pub find-found : (o : Option ℕ) (a : Answer) → a ≡ found o → a .number �
 find-found none a e z = absurd (omega (arith, ap (λ (x : Answer). x .number) e, z))
 find-found (some r) a e z = (ap some (sym (ap (λ (x : Answer). x .«record») e)), refl)
 
-pub find-absent : (o : Option ℕ) (a : Answer) → a ≡ found o → a .number ≢ 0 → isSome o ≡ false
-find-absent none a e z = refl
-find-absent (some r) a e z = absurd (z (ap (λ (x : Answer). x .number) e))
-
 some-herd : (key r : ℕ) (s : Herd) → lookup key s ≡ some r → 1 ≤ length s
 some-herd key r [] e = absurd (let z : _≡_ {A = ℕ} 0 1 = cc in omega arith)
 some-herd key r (x ∷ s) e = omega arith
@@ -68,16 +65,19 @@ some-herd key r (x ∷ s) e = omega arith
 pub changeable-sound : {index keys used : List ℕ} → Sound index keys used → (key : ℕ) → key < 2 ^ widthOf index → Changeable index key
 changeable-sound s key narrow = record { tree = tree-table s; narrow = narrow; held = held-high s }
 
-module _ {index keys used : List ℕ} {key r : ℕ} (h : HeldKey index keys used key r) where
-  pub strike-pre : OffPagesPre index key
+module _ {index keys used : List ℕ} {key : ℕ} {leaf : Leaf} (h : HeldKey index keys used key leaf) where
+  pub strike-pre : OffPagesPre index key leaf
   strike-pre = record {
     changeable = changeable-sound (h .sound) key (h .narrow);
     beside = rw (h .sound .leaves) (neighbours-law (widthOf index) (herdOf keys used) (herd-narrow (h .sound)) (herd-sorted (h .sound)));
-    some = omega (arith, some-herd key r (herdOf keys used) (h .found), herd-held (h .sound));
+    some = omega (arith, some-herd key (leaf .pointer) (herdOf keys used) (h .found), herd-held (h .sound));
+    first = h .place .first;
+    begins = h .place .begins;
+    way = h .place .way;
   }
 
-  pub held-inside : r < length used
-  held-inside = in-use-inside (h .sound) r (found-record (h .sound) key r (h .found) .0)
+  pub held-inside : leaf .pointer < length used
+  held-inside = in-use-inside (h .sound) (leaf .pointer) (found-record (h .sound) key (leaf .pointer) (h .found) .0)
 
 -- ---- on
 

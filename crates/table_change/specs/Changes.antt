@@ -4,7 +4,7 @@ use mathlib.Core.Logic.{_≢_}
 use mathlib.Core.Bool.{Bool, true, false, cond}
 use mathlib.Core.Option.{Option, none, some}
 use mathlib.Core.List.{List, []}
-use Prim.Native.Nat.{ℕ, suc, _-_, _^_, _<_}
+use Prim.Native.Nat.{ℕ, suc, _-_, _^_}
 use lib.Dec.{leb, ltb}
 use lib.ListN.{length, set}
 use Rattle.leaf_list.specs.Herd.{Herd, lookup}
@@ -79,12 +79,6 @@ offRow wide held = cond wide 2 (cond held 0 6)
 
 abbrev pub offRowOf : List ℕ → List ℕ → List ℕ → ℕ → ℕ
 offRowOf index keys used key = offRow (tooWide (widthOf index) key) (isHeld key (herdOf keys used))
-
--- A held key and its record, in sound tables.
-pub record HeldKey (index keys used : List ℕ) (key r : ℕ) : Type 0 where
-  pub sound : Sound index keys used
-  pub narrow : key < 2 ^ widthOf index
-  pub found : lookup key (herdOf keys used) ≡ some r
 
 -- What a done off leaves of the key's record and the pages; every page that stays keeps its number.
 pub record OffDone (index keys used : List ℕ) (key : ℕ) (index₁ keys₁ used₁ : List ℕ) : Type 0 where

@@ -1,12 +1,15 @@
 -- The pages of sound tables changed, and the header's root and records held with them. Assumes nothing.
 use mathlib.Core.Path.{_≡_}
 use mathlib.Core.Bool.{cond}
+use mathlib.Core.Option.{some}
 use mathlib.Core.List.{List, []}
 use Prim.Native.Nat.{ℕ, suc, _-_, _^_, _≤_, _<_}
 use lib.Dec.{ltb}
 use lib.ListN.{length, take}
 use Rattle.leaf_list.specs.Keys.{bits}
+use Rattle.leaf_list.specs.Herd.{lookup}
 use Rattle.leaf_list.specs.Search.{positions}
+use Rattle.leaf_list.specs.Register.{herdOf}
 use Rattle.leaf_list.proofs.Depths.{Neighbours}
 use Rattle.page_tree.specs.Row.{rowOf}
 use Rattle.page_tree.specs.Rows.{All, Closed}
@@ -18,9 +21,12 @@ use Rattle.leaf_list.specs.Entries.{depthOf}
 use Rattle.index_table.specs.Layout.{layoutOf, Ref, Fitting}
 use Rattle.index_table.specs.Header.{widthOf, entriesOf, pagesOf, rootOf, heldOf, withRoot, withHeld}
 use Rattle.index_table.specs.Pages.{pagesAt, numberedTreeAt}
-use Rattle.index_table.specs.Soundness.{SoundPages, rootLevel, treeOf, numberedTreeOf, leafEntries}
+use Rattle.index_table.specs.Soundness.{Sound, SoundPages, rootLevel, treeOf, numberedTreeOf, leafEntries}
 use Rattle.index_table.specs.Standing.{TreeTable}
 use Rattle.index_table.specs.Storing.{newLeaves}
+use Rattle.table_search.specs.declared.Leaf.{Leaf}
+use Rattle.table_search.specs.Places.{NextPosition, Way}
+use Rattle.table_calls.specs.Places.{FoundLeaf}
 use Rattle.table_change.specs.News.{foundFor}
 
 -- The index table as the change of pages needs it: its tree is sound, and a record more may be held.
@@ -42,10 +48,21 @@ pub record Repaged (index : List ℕ) (t : NumberedTree) (held : ℕ) (index₁ 
 
 -- ---- off
 
-pub record OffPagesPre (index : List ℕ) (key : ℕ) : Type 0 where
+-- A held key and the entry on level 0 that points at its record, in sound tables.
+pub record HeldKey (index keys used : List ℕ) (key : ℕ) (leaf : Leaf) : Type 0 where
+  pub sound : Sound index keys used
+  pub narrow : key < 2 ^ widthOf index
+  pub place : FoundLeaf index keys used key leaf
+  pub found : lookup key (herdOf keys used) ≡ some (leaf .pointer)
+
+pub record OffPagesPre (index : List ℕ) (key : ℕ) (leaf : Leaf) : Type 0 where
   pub changeable : Changeable index key
   pub beside : Neighbours (leafEntries index)
   pub some : 1 ≤ heldOf index
+  -- The way from the root to the entry found, begun at the key's first position.
+  pub first : ℕ
+  pub begins : NextPosition (widthOf index) key 0 first
+  pub way : Way (widthOf index) key (pagesAt (layoutOf (entriesOf index)) index) (rootLevel index) (rootOf index) first 0 leaf
 
 -- ---- on
 

@@ -1,16 +1,18 @@
 // Off in sound tables.
 ghost use mathlib.Core.Path.{_≡_};
 ghost use Rattle.index_table.specs.Soundness.{Sound};
-ghost use Rattle.table_change.specs.Changes.{HeldKey, OffDone, OffChanges};
+ghost use Rattle.table_change.specs.Changes.{OffDone, OffChanges};
+ghost use Rattle.table_change.specs.Repaging.{HeldKey};
 use table_calls::answer::Answer;
+use table_search::Leaf;
 
-// A held key is taken out, and its record is free.
-fn take_off(index: &mut [u8], keys: &mut [u64], used: &mut [u8], key: u64, record: u32)
-    requires { ⌜ HeldKey (now index) (now keys) (now used) key «record» ⌝ }
+// A held key is taken out at its leaf, and its record is free.
+fn take_off(index: &mut [u8], keys: &mut [u64], used: &mut [u8], key: u64, leaf: Leaf)
+    requires { ⌜ HeldKey (now index) (now keys) (now used) key leaf ⌝ }
     ensures { λ r. ⌜ OffDone (now (index .entry)) (now (keys .entry)) (now (used .entry)) key (now (index .exit)) (now (keys .exit)) (now (used .exit)) ⌝ }
 {
-    crate::pages::strike_pages(index, key);
-    let at = record as usize;
+    crate::pages::strike_pages(index, key, leaf);
+    let at = leaf.pointer as usize;
     keys[at] = 0;
     used[at] = 0;
 }
@@ -23,10 +25,10 @@ pub fn off_sound(index: &mut [u8], keys: &mut [u64], used: &mut [u8], key: u64) 
     if leaf_list::too_wide(index_table::header::width(index), key) {
         return Answer::plain(2);
     }
-    let found = table_calls::find::find_held(index, keys, used, key);
-    if found.number != 0 {
+    let leaf = table_calls::find::leaf_of(index, keys, used, key);
+    if !crate::rows::is_key(keys, leaf.pointer, key) {
         return Answer::plain(6);
     }
-    take_off(index, keys, used, key, found.record);
+    take_off(index, keys, used, key, leaf);
     Answer::plain(0)
 }

@@ -8,15 +8,25 @@ ghost use Rattle.table_change.specs.Repaging.{OffPagesPre, Repaged, late
 use index_table::header::Index;
 use page_tree::Row;
 use table_calls::find::wide;
+use table_search::Leaf;
 
-// The entry that figure 6 finds for a key is taken out.
-pub fn strike_pages(index: &mut [u8], key: u64)
-    requires { ⌜ OffPagesPre (now index) key ⌝ }
+// The entry that figure 6 finds for a key, at the leaf, is taken out.
+pub fn strike_pages(index: &mut [u8], key: u64, leaf: Leaf)
+    requires { ⌜ OffPagesPre (now index) key leaf ⌝ }
     ensures { λ r. ⌜ Repaged (now (index .entry)) (offNumbered (widthOf (now (index .entry))) key (numberedTreeOf (now (index .entry)))) (heldOf (now (index .entry)) - 1) (now (index .exit)) ⌝ }
 {
     let h = index_table::header::read(index);
     let level = index_table::layout::level(index, h.entries, h.root);
-    let root = table_delete::take_out(index, h.entries, h.pages, level, h.root, wide(h.width), key);
+    let root = table_delete::take_out_at(
+        index,
+        h.entries,
+        h.pages,
+        level,
+        h.root,
+        wide(h.width),
+        key,
+        leaf,
+    );
     index_table::write::set_root(index, root.page);
     index_table::write::set_held(index, h.held - 1);
 }

@@ -1,5 +1,6 @@
 pub mod EntryTurns
 pub mod Following
+pub mod FoundPlaces
 pub mod Frames
 pub mod Lowering
 pub mod RemovalSteps
@@ -11,3 +12,7 @@ pub mod SoundLinks
 pub mod SweepTurns
 pub mod Sweeps
 pub mod TakingOut
+pub mod StayingEntries
+pub mod NearRows
+pub mod QuietWays
+pub mod TakingAt

@@ -15,7 +15,8 @@ use Rattle.table_delete.specs.Rows.{PutPost, SettlePre, SettlePost}
 use Rattle.table_delete.specs.Unwinding.{SweepPre, SweepPost}
 use Rattle.table_delete.specs.Removing.{RemovePre, LocatePost, RemovePost}
 use Rattle.table_delete.proofs.Sweeps.{down-settle}
-use Rattle.table_delete.proofs.Removals.{found-down, found-sweep, found-post}
+use Rattle.table_delete.proofs.FoundPlaces.{found-down}
+use Rattle.table_delete.proofs.Removals.{found-sweep, found-post}
 
 -- The page below is to be searched.
 pub remove-locate : (n : ℕ) {e P : ℕ} {b : List ℕ} {x : Ref} {w key position : ℕ} (p : ℕ) → p ≡ x .1 → (n ≡ 0 → ⊥) → RemovePre e P n b x w key position
@@ -42,7 +43,7 @@ module _ (n : ℕ) {e P : ℕ} {b : List ℕ} {x : Ref} {w key position τ ν : 
       go zero ne h a = absurd (ne refl)
       go (suc n) ne h a =
           let m : suc n - 1 ≡ n = omega arith in
-          rw (m, df, qf, a .row .entries) (found-down h (rw m at a))
+          rw (m, df, qf, a .row .entries) (found-down h (l .spot) ((rw m at a) .stopped))
 
   module _ (small : e < 256) (b₁ : List ℕ) (r : Remnant) (g : RemovePost e P (n - 1) b (d, q) w key (l .spot .position) (l .spot .trail) (l .next) b₁ r) (slot : Slot)
       (put : PutPost (l .row) (l .spot .at + 1) r slot) where

@@ -23,7 +23,8 @@ use Rattle.table_delete.specs.Rows.{around, PutPost, settledPage, entryF
 pub put-none : (row : Row) (w : ℕ) (x : Remnant) → x .stays ≡ false → PutPost row w x (record { row = row; at = w })
 put-none row w x s = record { count = refl; full = refl; right = rw s refl; left = λ i h. refl; least = omega arith; most = omega arith }
 
-drop-set : (l : List Ref) (i : ℕ) (a : Ref) → i < length l → drop i (set l i a) ≡ a ∷ drop (suc i) l
+-- The entries from a place on, where another was put there.
+pub drop-set : (l : List Ref) (i : ℕ) (a : Ref) → i < length l → drop i (set l i a) ≡ a ∷ drop (suc i) l
 drop-set l i a h =
     drop-cons (set l i a) i (0, 0) (omega (arith, length-set l i a))
     ∙ ap₂ (λ (y : Ref) (r : List Ref). y ∷ r) (getD-set-same l i a (0, 0) h) (drop-set-lt (suc i) l i a (omega arith))
@@ -65,11 +66,13 @@ joined-row row new first r i w l m z f g = record {
 pub settle-storable : (e : ℕ) (b : List ℕ) (p : ℕ) (done : Swept) → e ≤ 255 → SettlePre e b p done → Storable e b p (done .row) 0 (done .row .count)
 settle-storable e b p done l h = record { within = h .within; order = omega arith; places = omega (arith, h .few); few = omega (arith, h .few); fitting = rw (back-part (done .row) 0) (h .fitting) }
 
-page-some : (e level : ℕ) (l : List Ref) → 1 ≤ length l → settledPage e level l ≡ rowPage e level l
+-- A page with entries is settled by its row.
+pub page-some : (e level : ℕ) (l : List Ref) → 1 ≤ length l → settledPage e level l ≡ rowPage e level l
 page-some e level [] h = absurd (omega arith)
 page-some e level (x ∷ l) h = refl
 
-entry-some : (p d : ℕ) (l : List Ref) → 1 ≤ length l → d ≡ lastDepth depthOf 0 l → entryFor p l ≡ (d, p) ∷ []
+-- Its entry in the parent has the last depth.
+pub entry-some : (p d : ℕ) (l : List Ref) → 1 ≤ length l → d ≡ lastDepth depthOf 0 l → entryFor p l ≡ (d, p) ∷ []
 entry-some p d [] h g = absurd (omega arith)
 entry-some p d (x ∷ l) h g = rw (← g) refl
 

@@ -34,7 +34,8 @@ module _ (L : Layout) (P : ℕ) (b : List ℕ) where
   idle-all n f [] g ys = refl
   idle-all n f (x ∷ row) g ys = rw (idle-all n f row (g .1) ys, f x (g .0)) refl
 
-  kept-some : {A : Type 0} (p : ℕ) (xs : List A) → 1 ≤ length xs → keptUnder p xs ≡ (p, xs) ∷ []
+  -- A page with entries is kept under its number.
+  pub kept-some : {A : Type 0} (p : ℕ) (xs : List A) → 1 ≤ length xs → keptUnder p xs ≡ (p, xs) ∷ []
   kept-some p [] h = absurd (omega arith)
   kept-some p (x ∷ xs) h = refl
 
@@ -46,7 +47,8 @@ module _ (L : Layout) (P : ℕ) (b : List ℕ) where
       rw (idle-all n (idle-one n) row (g .2) [], append-nil (numbersAt n (pagesAt L b) row))
       (ap (λ (t : List (Numbered (suc n))). (t, Idle)) (kept-some (x .1) (numbersAt n (pagesAt L b) row) (omega (arith, length-map row (numberedAt 65535 n (pagesAt L b)), g .0 .some))))
 
-  idle-row : (n : ℕ) (row : List Ref) → All (Linked L P n b) row → (ys : List (Numbered n)) → sweep (stepNumbered n) Idle (numbersAt n (pagesAt L b) row) ys ≡ (numbersAt n (pagesAt L b) row ++ ys, Idle)
+  -- All entries of a row stay.
+  pub idle-row : (n : ℕ) (row : List Ref) → All (Linked L P n b) row → (ys : List (Numbered n)) → sweep (stepNumbered n) Idle (numbersAt n (pagesAt L b) row) ys ≡ (numbersAt n (pagesAt L b) row ++ ys, Idle)
   idle-row n row g ys = idle-all n (idle-one n) row g ys
 
 -- ---- lists

@@ -27,7 +27,7 @@ use Rattle.table_delete.proofs.Settling.{settled-kept, settled-numbers}
 -- ---- level 0
 
 -- An entry of a leaf page meets no page.
-none-met : (pages : Pages) (row : List Ref) (q : ℕ) → metAll 0 pages row q ≡ 0
+pub none-met : (pages : Pages) (row : List Ref) (q : ℕ) → metAll 0 pages row q ≡ 0
 unfolding met
 none-met pages [] q = refl
 none-met pages (x ∷ row) q = omega (arith, none-met pages row q)

@@ -4,3 +4,4 @@ pub mod Rows
 pub mod Unwinding
 pub mod Removing
 pub mod Taking
+pub mod OnePage

@@ -14,6 +14,8 @@ use Rattle.index_table.specs.Pages.{pagesAt, met, inUse, numberedAt, rootRef, t
 use Rattle.index_table.specs.Soundness.{SizedPage, SoundPages, Cleared}
 use Rattle.index_table.specs.Standing.{TreeTable, Owned}
 use Rattle.index_table.specs.declared.layout.Root.{Root}
+use Rattle.table_search.specs.declared.Leaf.{Leaf}
+use Rattle.table_search.specs.Places.{NextPosition, Way}
 use Rattle.table_delete.specs.Keeping.{numbersAt, Linked, Paged}
 
 -- A root page of level n, below which pages may be changed.
@@ -41,6 +43,13 @@ pub record TakePre (b : List ℕ) (e P level root w key : ℕ) : Type 0 where
   pub tree : TreeTable b e P level root w
   pub narrow : key < 2 ^ w
   pub beside : Neighbours (leavesOf (treeAt 65535 (pagesAt (layoutOf e) b) level root))
+
+-- The same with the way to the entry that figure 6 finds, begun at the key's first position.
+pub record TakeAtPre (b : List ℕ) (e P level root w key : ℕ) (leaf : Leaf) : Type 0 where
+  pub take : TakePre b e P level root w key
+  pub first : ℕ
+  pub begins : NextPosition w key 0 first
+  pub way : Way w key (pagesAt (layoutOf e) b) level root first 0 leaf
 
 -- The tree without the entry that figure 6 finds, under the root that is left.
 pub record TakePost (b : List ℕ) (e P level root w key : ℕ) (b′ : List ℕ) (r : Root) : Type 0 where

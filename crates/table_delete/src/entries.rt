@@ -76,7 +76,7 @@ pub fn step(state: Unwind, d: u8, p: u32) -> Remnant
     }
 }
 
-fn deep(x: u8) -> u64
+pub fn deep(x: u8) -> u64
     ensures { λ r. ⌜ r ≡ x ⌝ }
 {
     x as u64

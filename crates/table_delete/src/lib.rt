@@ -1,12 +1,14 @@
 // Deletion in the pages of a sound tree: figure 11 over the whole list, across pages.
 ghost use mathlib.Core.Path.{_≡_};
-ghost use Rattle.table_delete.specs.Taking.{LowerPre, LowerPost, TakePre, TakePost};
+ghost use Rattle.table_delete.specs.Taking.{LowerPre, LowerPost, TakePre, TakeAtPre, TakePost};
 
 pub mod entries;
+pub mod near;
 pub mod removal;
 pub mod rows;
 pub mod unwinding;
 
+use crate::near::strike_near;
 use crate::removal::remove;
 use crate::rows::page_of;
 use crate::rows::pointer_to;
@@ -15,6 +17,7 @@ use index_table::layout::Root;
 use index_table::layout::child;
 use index_table::layout::count;
 use index_table::write::free_page;
+use table_search::Leaf;
 use table_search::next_position;
 
 // The root rule: a root above level 0 with one entry is freed, and its child is the root.
@@ -57,4 +60,27 @@ pub fn take_out(
     let left = remove(index, e, pages, level + 1, 0, p, w, key, position, 0, 0);
     let page = page_of(left.pointer);
     lower(index, e, pages, level, page)
+}
+
+// The same where the way to the entry is known: within its page where that page alone changes.
+pub fn take_out_at(
+    index: &mut [u8],
+    e: u8,
+    pages: u16,
+    level: u8,
+    root: PageNo,
+    w: u64,
+    key: u64,
+    leaf: Leaf,
+) -> Root
+    requires { ⌜ TakeAtPre (now index) e pages level (root .0) w key leaf ⌝ }
+    ensures { λ r. ⌜ TakePost (now (index .entry)) e pages level (root .0) w key (now (index .exit)) r ⌝ }
+{
+    if strike_near(index, e, leaf.page, leaf.at, leaf.trail) {
+        return Root {
+            page: root,
+            level: level,
+        };
+    }
+    take_out(index, e, pages, level, root, w, key)
 }

@@ -1,12 +1,10 @@
 -- Rows 2 and 6, or off. Assumes nothing.
-use mathlib.Core.Path.{sym, _∙_}
 use borrow.Author.Needs.{needs}
-use borrow.Author.Tests.{leb-false}
+use borrow.Author.Tests.{not-true, not-false}
 use native.Mathlib.Omega.{arith}
-use Rattle.leaf_list.specs.Herd.{lookup}
-use Rattle.leaf_list.specs.Register.{herdOf}
 use Rattle.index_table.proofs.SoundTables.{header-long}
-use Rattle.table_change.proofs.RowChoice.{wide-is, off-refused, off-accepted, off-wide, off-absent, off-held, find-found, find-absent}
+use Rattle.table_change.proofs.RowChoice.{wide-is, off-refused, off-accepted, off-wide}
+use Rattle.table_change.proofs.Leaving.{narrow, inside, row-six, row-none, held-key}
 use Rattle.table_change.proofs.off.off_sound.Statement.{statement}
 use Rattle.table_change.proofs.off.off_sound.Tie as tie
 
@@ -30,12 +28,21 @@ returns c =
     let start = read .before .before .before .before .before in
     off-refused 2 (λ e. omega (arith, e)) (off-wide (start .args .index .now) (start .args .keys .now) (start .args .used .now) (start .args .key) wide) _ (c .plain .ensures)
 
-find-held-requires : tie.Need-find-held-requires
-find-held-requires c κs =
-    let narrow = c .before .before .before in
-    let read = narrow .before .before in
-    let wide = wide-is _ (read .width .ensures .0) (narrow .before .too-wide .ensures) (narrow .if1 .left) in
-    (read .before .before .before .before .before .pre, leb-false _ _ wide)
+leaf-of-requires : tie.Need-leaf-of-requires
+leaf-of-requires c κs =
+    let narrow-enough = c .before .before .before in
+    let read = narrow-enough .before .before in
+    let wide = wide-is _ (read .width .ensures .0) (narrow-enough .before .too-wide .ensures) (narrow-enough .if1 .left) in
+    let start = read .before .before .before .before .before in
+    (start .pre, narrow (start .pre) wide)
+
+is-key-requires : tie.Need-is-key-requires
+is-key-requires c κs =
+    let narrow-enough = c .before .before .before .before .before in
+    let read = narrow-enough .before .before in
+    let wide = wide-is _ (read .width .ensures .0) (narrow-enough .before .too-wide .ensures) (narrow-enough .if1 .left) in
+    let start = read .before .before .before .before .before in
+    inside (start .pre) wide _ (c .before .leaf-of .ensures)
 
 plain-requires-2 : tie.Need-plain-requires-2
 plain-requires-2 c κs = search needs
@@ -51,26 +58,19 @@ same-length-4 c = search needs
 
 returns-2 : tie.Need-returns-2
 returns-2 c =
-    let looked = c .before .before .before in
-    let narrow = looked .before .before .before .before in
-    let read = narrow .before .before in
-    let wide = wide-is _ (read .width .ensures .0) (narrow .before .too-wide .ensures) (narrow .if1 .left) in
+    let narrow-enough = c .before .before .before .before .before .before .before .before in
+    let read = narrow-enough .before .before in
+    let wide = wide-is _ (read .width .ensures .0) (narrow-enough .before .too-wide .ensures) (narrow-enough .if1 .left) in
     let start = read .before .before .before .before .before in
-    off-refused 6 (λ e. omega (arith, e)) (off-absent (start .args .index .now) (start .args .keys .now) (start .args .used .now) (start .args .key) wide (find-absent (lookup (start .args .key) (herdOf (start .args .keys .now) (start .args .used .now))) _ (looked .find-held .ensures) (c .before .if2 .taken))) _ (c .plain2 .ensures)
+    off-refused 6 (λ e. omega (arith, e)) (row-six (start .pre) wide _ (c .before .before .before .before .leaf-of .ensures) (c .before .before .is-key .ensures) (not-true _ (c .before .if2 .taken))) _ (c .plain2 .ensures)
 
 take-off-requires : tie.Need-take-off-requires
 take-off-requires c κs =
-    let tested = c .before .before .before in
-    let looked = tested .before .before in
-    let narrow = looked .before .before .before .before in
-    let read = narrow .before .before in
-    let wide = wide-is _ (read .width .ensures .0) (narrow .before .too-wide .ensures) (narrow .if1 .left) in
+    let narrow-enough = c .before .before .before .before .before .before .before .before .before .before in
+    let read = narrow-enough .before .before in
+    let wide = wide-is _ (read .width .ensures .0) (narrow-enough .before .too-wide .ensures) (narrow-enough .if1 .left) in
     let start = read .before .before .before .before .before in
-    record {
-      sound = start .pre;
-      narrow = leb-false _ _ wide;
-      found = find-found (lookup (start .args .key) (herdOf (start .args .keys .now) (start .args .used .now))) _ (looked .find-held .ensures) (tested .if2 .left) .0;
-    }
+    held-key (start .pre) wide _ (c .before .before .before .before .before .before .leaf-of .ensures) (c .before .before .before .before .is-key .ensures) (not-false _ (c .before .before .before .if2 .left))
 
 plain-requires-3 : tie.Need-plain-requires-3
 plain-requires-3 c κs = search needs
@@ -86,14 +86,11 @@ same-length-7 c = search needs
 
 returns-3 : tie.Need-returns-3
 returns-3 c =
-    let taken = c .before .before .before .before .before .before .before in
-    let tested = taken .before .before .before .before in
-    let looked = tested .before .before in
-    let narrow = looked .before .before .before .before in
-    let read = narrow .before .before in
-    let wide = wide-is _ (read .width .ensures .0) (narrow .before .too-wide .ensures) (narrow .if1 .left) in
+    let narrow-enough = c .before .before .before .before .before .before .before .before .before .before .before .before .before .before .before .before .before .before in
+    let read = narrow-enough .before .before in
+    let wide = wide-is _ (read .width .ensures .0) (narrow-enough .before .too-wide .ensures) (narrow-enough .if1 .left) in
     let start = read .before .before .before .before .before in
-    off-accepted (off-held (start .args .index .now) (start .args .keys .now) (start .args .used .now) (start .args .key) wide (find-found (lookup (start .args .key) (herdOf (start .args .keys .now) (start .args .used .now))) _ (looked .find-held .ensures) (tested .if2 .left) .1)) _ (c .plain3 .ensures) (taken .take-off .ensures)
+    off-accepted (row-none (start .pre) wide _ (c .before .before .before .before .before .before .before .before .before .before .before .before .before .before .leaf-of .ensures) (c .before .before .before .before .before .before .before .before .before .before .before .before .is-key .ensures) (not-false _ (c .before .before .before .before .before .before .before .before .before .before .before .if2 .left))) _ (c .plain3 .ensures) (c .before .before .before .before .before .before .before .take-off .ensures)
 
 pub off-sound-spec : {M : Type 1} → statement M
 off-sound-spec =
@@ -104,7 +101,8 @@ off-sound-spec =
     plain-requires
     same-length
     returns
-    find-held-requires
+    leaf-of-requires
+    is-key-requires
     plain-requires-2
     same-length-2
     same-length-3

@@ -13,12 +13,12 @@ level-requires c κs = root-inside (c .before .before .before .before .pre .chan
 wide-requires : tie.Need-wide-requires
 wide-requires c κs = search needs
 
-take-out-requires : tie.Need-take-out-requires
-take-out-requires c κs =
+take-out-at-requires : tie.Need-take-out-at-requires
+take-out-at-requires c κs =
     let level = c .before .before in
     let read = level .before .before in
     let start = read .before .before .before in
-    take-pre (start .pre .changeable) _ (read .read .ensures) _ _ (c .wide .ensures) (level .level .ensures) (start .pre)
+    take-pre (start .pre .changeable) _ (read .read .ensures) _ _ (c .wide .ensures) (level .level .ensures) _ (start .pre)
 
 set-root-requires : tie.Need-set-root-requires
 set-root-requires c κs = search needs
@@ -40,7 +40,7 @@ returns c =
     let level = taken .before .before .before in
     let read = level .before .before in
     let start = read .before .before .before in
-    off-repaged (start .pre .changeable) _ (read .read .ensures) _ _ (taken .before .wide .ensures) (level .level .ensures) _ _ _ _ (taken .take-out .ensures) (rooted .set-root .ensures) (held .set-held .ensures)
+    off-repaged (start .pre .changeable) _ (read .read .ensures) _ _ (taken .before .wide .ensures) (level .level .ensures) _ _ _ _ (taken .take-out-at .ensures) (rooted .set-root .ensures) (held .set-held .ensures)
 
 pub strike-pages-spec : {M : Type 1} → statement M
 strike-pages-spec =
@@ -49,7 +49,7 @@ strike-pages-spec =
     read-requires
     level-requires
     wide-requires
-    take-out-requires
+    take-out-at-requires
     set-root-requires
     sub-set-held
     set-held-requires

@@ -1,0 +1,228 @@
+-- Where one page of level 0 changes alone, every page above it stays (01, "parent depths follow"). Assumes nothing.
+use mathlib.Core.Path.{_≡_, refl, sym, ap, ap₂, subst, _∙_}
+use mathlib.Core.List.{List, [], _∷_, _++_, append-assoc, map-append}
+use Prim.Native.Nat.{ℕ, zero, suc, _+_, _≤_, _<_}
+use native.Mathlib.Omega.{arith}
+use lib.ListN.{length, getD, take, drop, length-map}
+use lib.Seq.{drop-cons}
+use Rattle.page_tree.specs.Rows.{All}
+use Rattle.page_tree.specs.declared.Unwind.the-variants.{Idle}
+use Rattle.page_tree.specs.OffPages.{Left, sweep, strikeIn}
+use Rattle.page_tree.specs.Numbered.{Numbered, numberedDepth, numberedLeaves, keptUnder, stepNumbered, deleteNumbered}
+use Rattle.page_tree.proofs.ListLaws.{all-left}
+use Rattle.index_table.specs.Layout.{Layout, layoutOf, Ref, Within, pageBytes, refsOf, store}
+use Rattle.index_table.specs.Pages.{Pages, pagesAt, nodeAt, numberedAt, same, met, metAll}
+use Rattle.index_table.specs.Soundness.{SizedPage}
+use Rattle.index_table.specs.Standing.{Owned}
+use Rattle.index_table.proofs.PageCounts.{same-self}
+use Rattle.index_table.proofs.Frames.{UnchangedRow}
+use Rattle.table_search.specs.declared.Spot.{Spot}
+use Rattle.table_search.specs.declared.Leaf.{Leaf}
+use Rattle.table_search.specs.Places.{leftFrom, Stopped, Way}
+use Rattle.table_search.proofs.Descents.{descend-within}
+use Rattle.table_delete.specs.Keeping.{numbersAt, Linked, Kept}
+use Rattle.table_delete.specs.Rows.{settled, entryFor}
+use Rattle.table_delete.specs.Removing.{followingAt, RemovePre}
+use Rattle.table_delete.specs.OnePage.{NearDone, struckAt}
+use Rattle.table_delete.proofs.Frames.{kept-at, before-stays, after-stays}
+use Rattle.table_delete.proofs.RowChanges.{page-some, entry-some}
+use Rattle.table_delete.proofs.Settling.{settled-kept, settled-numbers}
+use Rattle.table_delete.proofs.Sweeps.{none-met}
+use Rattle.table_delete.proofs.SweepTurns.{met-mid, kept-some, idle-row}
+use Rattle.table_delete.proofs.FoundPlaces.{found-parted, found-linked, found-owned, found-down, found-strike}
+use Rattle.table_delete.proofs.Removals.{remove-descend}
+
+-- The entry x of rank n stays, whatever follows it, and nothing is asked of the entry before it. Above level 0 its page stays too.
+pub record Quiet (e P n : ℕ) (b : List ℕ) (x : Ref) (bs : List ℕ) (τ : ℕ) (b′ : List ℕ) : Type 0 where
+  pub kept : Kept (layoutOf e) P n b (met n (pagesAt (layoutOf e) b) x) b′ (x ∷ [])
+  pub left : (ν : ℕ) → deleteNumbered n ν bs τ (numberedAt 65535 n (pagesAt (layoutOf e) b) x) ≡ (numberedAt 65535 n (pagesAt (layoutOf e) b′) x ∷ [], Idle)
+  pub page : 2 ≤ n → pagesAt (layoutOf e) b′ (x .1) ≡ pagesAt (layoutOf e) b (x .1)
+
+module _ {e P n : ℕ} {b : List ℕ} {x : Ref} {w key position τ : ℕ} (h : RemovePre e P (suc n) b x w key position) (s : Spot) (a : Stopped w key position τ (pagesAt (layoutOf e) b (x .1)) s) where
+  abbrev L : Layout
+  L = layoutOf e
+
+  abbrev pages : Pages
+  pages = pagesAt L b
+
+  abbrev row : List Ref
+  row = pages (x .1)
+
+  abbrev front : List Ref
+  front = take (s .at) row
+
+  abbrev y : Ref
+  y = getD row (s .at) (0, 0)
+
+  abbrev rest : List Ref
+  rest = drop (suc (s .at)) row
+
+  parted : row ≡ front ++ y ∷ rest
+  parted = found-parted h s a
+
+  linked : All (Linked L P n b) (front ++ y ∷ rest)
+  linked = found-linked h s a
+
+  owned : Owned L b (metAll n pages (front ++ y ∷ rest))
+  owned = found-owned h s a
+
+  opened : (q : ℕ) → met (suc n) pages x q ≡ same (x .1) q + metAll n pages (front ++ y ∷ rest) q
+  unfolding met
+  opened q = ap (λ (l : List Ref). same (x .1) q + metAll n pages l q) parted
+
+  -- The page is not met below its own entries.
+  apart : met n pages y (x .1) ≡ 0
+  apart = omega (arith, h .back .own (x .1), opened (x .1), same-self (x .1), met-mid (λ z. met n pages z (x .1)) front y rest)
+
+  module _ (b′ : List ℕ) (q : Quiet e P n b y (leftFrom w key (s .position)) (s .trail) b′) where
+    abbrev pages′ : Pages
+    pages′ = pagesAt L b′
+
+    page-same : pageBytes L b′ (x .1) ≡ pageBytes L b (x .1)
+    page-same = q .kept .same (x .1) apart
+
+    row-same : pages′ (x .1) ≡ row
+    row-same = ap (refsOf L) page-same
+
+    row-kept : Kept L P n b (metAll n pages (front ++ y ∷ rest)) b′ row
+    row-kept =
+        subst (λ (l : List Ref). Kept L P n b (metAll n pages (front ++ y ∷ rest)) b′ l) (append-assoc front (y ∷ []) rest ∙ sym parted)
+        (kept-at L P n b front y rest owned linked b′ (y ∷ []) (q .kept))
+
+    met-now : (p : ℕ) → metAll (suc n) pages′ (x ∷ []) p ≡ same (x .1) p + metAll n pages′ row p
+    unfolding met
+    met-now p = let z : metAll n pages′ (pages′ (x .1)) p ≡ metAll n pages′ row p = ap (λ (l : List Ref). metAll n pages′ l p) row-same in omega (arith, z)
+
+    up-kept : Kept L P (suc n) b (met (suc n) pages x) b′ (x ∷ [])
+    up-kept = record {
+      long = row-kept .long;
+      front = row-kept .front;
+      pages = λ p. omega (arith, met-now p, row-kept .pages p, opened p);
+      same = λ p z. row-kept .same p (omega (arith, opened p, z));
+      cleared = row-kept .cleared;
+      linked = (
+        (
+          record { number = h .back .linked .0 .number; level = rw page-same (h .back .linked .0 .level); some = rw page-same (h .back .linked .0 .some); few = rw page-same (h .back .linked .0 .few) },
+          rw page-same (h .back .linked .1),
+          rw row-same (row-kept .linked),
+        ),
+        tt,
+      );
+    }
+
+    fronts : UnchangedRow L n b b′ front
+    fronts = before-stays L P n b front y rest owned linked b′ (y ∷ []) (q .kept)
+
+    rests : UnchangedRow L n b b′ rest
+    rests = after-stays L P n b front y rest owned linked b′ (y ∷ []) (q .kept)
+
+    front-linked : All (Linked L P n b) front
+    front-linked = all-left (Linked L P n b) front (y ∷ rest) linked
+
+    -- The row of the page with the entry found as it reads now.
+    swept : (ν : ℕ) → strikeIn (numberedDepth n) (numberedLeaves n) (stepNumbered n) (deleteNumbered n) ν (leftFrom w key position) τ (numbersAt n pages row) ≡ (numbersAt n pages′ row, Idle)
+    swept ν =
+        found-strike h s a ν (followingAt n pages ν rest) refl
+        ∙ ap (λ (o : Left (Numbered n)). sweep (stepNumbered n) (o .1) (numbersAt n pages front) (o .0 ++ numbersAt n pages rest)) (q .left (followingAt n pages ν rest))
+        ∙ idle-row L P b n front front-linked (numberedAt 65535 n pages′ y ∷ numbersAt n pages rest)
+        ∙ ap (λ (l : List (Numbered n)). (l, Idle))
+        (ap₂ (λ (l m : List (Numbered n)). l ++ numberedAt 65535 n pages′ y ∷ m) (sym (fronts .numbereds 65535)) (sym (rests .numbereds 65535))
+        ∙ sym (map-append (numberedAt 65535 n pages′) front (y ∷ rest)) ∙ ap (numbersAt n pages′) (sym parted))
+
+    some-numbers : 1 ≤ length (numbersAt n pages′ row)
+    some-numbers = omega (arith, length-map row (numberedAt 65535 n pages′), h .sound .0 .some)
+
+    -- One level up.
+    pub quiet-up : Quiet e P (suc n) b x (leftFrom w key position) τ b′
+    unfolding numberedAt
+    quiet-up = record {
+      kept = up-kept;
+      left = λ ν.
+          ap (λ (o : Left (Numbered n)). (keptUnder (x .1) (o .0), o .1)) (swept ν)
+          ∙ ap (λ (l : List (Numbered (suc n))). (l, Idle)) (kept-some L P b (x .1) (numbersAt n pages′ row) some-numbers ∙ ap (λ (l : List Ref). (x .1, numbersAt n pages′ l) ∷ []) (sym row-same));
+      page = λ k. row-same;
+    }
+
+-- ---- the page of level 0
+
+module _ {e P : ℕ} {b : List ℕ} {x : Ref} {w key position τ : ℕ} (h : RemovePre e P 1 b x w key position) (s : Spot) (a : Stopped w key position τ (pagesAt (layoutOf e) b (x .1)) s)
+    (followed : suc (s .at) < length (pagesAt (layoutOf e) b (x .1))) (b′ : List ℕ) (d : NearDone e b (x .1) (s .at) (struckAt (pagesAt (layoutOf e) b (x .1)) (s .at) (s .trail)) b′) where
+  abbrev leafPages : Pages
+  leafPages = pagesAt (layoutOf e) b
+
+  abbrev old : List Ref
+  old = leafPages (x .1)
+
+  abbrev new : List Ref
+  new = d .row
+
+  within : Within (layoutOf e) b (x .1)
+  within = descend-within (remove-descend h)
+
+  -- No page is met below the entries of level 0.
+  leaf-kept : Kept (layoutOf e) P 0 b (metAll 0 leafPages old) b new
+  leaf-kept = record {
+    long = refl;
+    front = refl;
+    pages = λ q. omega (arith, none-met leafPages old q, none-met leafPages new q);
+    same = λ q z. refl;
+    cleared = λ q c. c;
+    linked = d .fitting;
+  }
+
+  stored-is : b′ ≡ settled e 0 b (x .1) new
+  stored-is = d .bytes ∙ ap (store (layoutOf e) b (x .1)) (sym (page-some e 0 new (d .some)))
+
+  -- The parent's entry stays.
+  entry-is : entryFor (x .1) new ≡ x ∷ []
+  entry-is = entry-some (x .1) (x .0) new (d .some) (h .back .linked .1 ∙ sym (d .last))
+
+  -- The depth that follows is that of the next entry.
+  next-is : (ν : ℕ) → getD old (suc (s .at)) (0, 0) .0 ≡ followingAt 0 leafPages ν (drop (suc (s .at)) old)
+  unfolding nodeAt
+  next-is ν = sym (ap (followingAt 0 leafPages ν) (drop-cons old (suc (s .at)) (0, 0) followed))
+
+  leaf-swept : (ν : ℕ) → strikeIn (numberedDepth 0) (numberedLeaves 0) (stepNumbered 0) (deleteNumbered 0) ν (leftFrom w key position) τ (numbersAt 0 leafPages old) ≡ (numbersAt 0 leafPages new, Idle)
+  unfolding numberedAt
+  leaf-swept ν = found-strike h s a ν (getD old (suc (s .at)) (0, 0) .0) (next-is ν) ∙ d .left
+
+  kept-page : Kept (layoutOf e) P 1 b (met 1 leafPages x) b′ (x ∷ [])
+  kept-page = rw (stored-is, ← entry-is) (settled-kept e P 0 b x (h .back .linked .0 .number) (h .back .own) b new leaf-kept within (d .few) (d .fitting))
+
+  numbers-are : keptUnder (x .1) (numbersAt 0 leafPages new) ≡ numberedAt 65535 1 (pagesAt (layoutOf e) b′) x ∷ []
+  numbers-are =
+      sym
+      (ap (λ (t : List ℕ). numbersAt 1 (pagesAt (layoutOf e) t) (x ∷ [])) stored-is ∙ ap (numbersAt 1 (pagesAt (layoutOf e) (settled e 0 b (x .1) new))) (sym entry-is)
+      ∙ settled-numbers e P 0 b x (h .back .linked .0 .number) (h .back .own) b new leaf-kept within (d .few) (d .fitting))
+
+  whole-left : (ν : ℕ) → deleteNumbered 1 ν (leftFrom w key position) τ (numberedAt 65535 1 leafPages x) ≡ (keptUnder (x .1) (numbersAt 0 leafPages new), Idle)
+  unfolding numberedAt
+  whole-left ν = ap (λ (o : Left (Numbered 0)). (keptUnder (x .1) (o .0), o .1)) (leaf-swept ν)
+
+  -- Its parent's entry stays, and nothing is asked.
+  pub quiet-leaf : Quiet e P 1 b x (leftFrom w key position) τ b′
+  quiet-leaf = record {
+    kept = kept-page;
+    left = λ ν. whole-left ν ∙ ap (λ (l : List (Numbered 1)). (l, Idle)) numbers-are;
+    page = λ k. absurd (omega arith);
+  }
+
+-- ---- the way
+
+-- The page found is one of level 0, and the place stands in it.
+pub record LeafPage (e P : ℕ) (b : List ℕ) (leaf : Leaf) : Type 0 where
+  pub sized : SizedPage (layoutOf e) P 0 b (leaf .page .0)
+  pub inside : leaf .at < length (pagesAt (layoutOf e) b (leaf .page .0))
+
+pub way-page : (n : ℕ) {e P : ℕ} {b : List ℕ} {x : Ref} {w key position : ℕ} (τ : ℕ) (leaf : Leaf) → RemovePre e P (suc n) b x w key position
+    → Way w key (pagesAt (layoutOf e) b) n (x .1) position τ leaf → LeafPage e P b leaf
+way-page zero τ leaf h a = record { sized = rw (a .page-is) (h .sound .0); inside = rw (a .page-is) (a .place .inside) }
+way-page (suc n) τ leaf h a = way-page n (a .0 .trail) leaf (found-down h (a .0) (a .1)) (a .2)
+
+-- Every entry on the way stays.
+pub way-quiet : (n : ℕ) {e P : ℕ} {b : List ℕ} {x : Ref} {w key position : ℕ} (τ : ℕ) (leaf : Leaf) → RemovePre e P (suc n) b x w key position
+    → Way w key (pagesAt (layoutOf e) b) n (x .1) position τ leaf → suc (leaf .at) < length (pagesAt (layoutOf e) b (leaf .page .0)) → (b′ : List ℕ)
+    → NearDone e b (leaf .page .0) (leaf .at) (struckAt (pagesAt (layoutOf e) b (leaf .page .0)) (leaf .at) (leaf .trail)) b′ → Quiet e P (suc n) b x (leftFrom w key position) τ b′
+way-quiet zero τ leaf h a l b′ d =
+    quiet-leaf h (record { at = leaf .at; position = leaf .position; trail = leaf .trail }) (a .place) (rw (a .page-is) at l) b′ (rw (a .page-is) at d)
+way-quiet (suc n) τ leaf h a l b′ d = quiet-up h (a .0) (a .1) b′ (way-quiet n (a .0 .trail) leaf (found-down h (a .0) (a .1)) (a .2) l b′ d)

@@ -1,0 +1,88 @@
+-- Removal where one page of level 0 changes alone: the root and its level stay. Assumes nothing.
+use mathlib.Core.Path.{_≡_, refl, sym, ap, subst}
+use mathlib.Core.Bool.{true}
+use mathlib.Core.List.{List}
+use Prim.Native.Nat.{ℕ, zero, suc, _+_, _<_}
+use native.Mathlib.Omega.{arith}
+use native.Mathlib.Numerals.{add-one}
+use lib.ListN.{length}
+use Rattle.page_tree.specs.declared.Unwind.the-variants.{Idle}
+use Rattle.page_tree.specs.OffPages.{Left}
+use Rattle.page_tree.specs.Numbered.{Numbered}
+use Rattle.index_table.specs.Layout.{layoutOf, pageBytes}
+use Rattle.index_table.specs.Pages.{pagesAt, rootRef}
+use Rattle.index_table.specs.declared.layout.PageNo.{PageNo}
+use Rattle.index_table.specs.declared.layout.Root.{Root}
+use Rattle.index_table.proofs.NumberLaws.{Bytes}
+use Rattle.index_table.proofs.PageBytes.{within-table}
+use Rattle.index_table.proofs.PageRows.{length-refs, refs-fit}
+use Rattle.index_table.proofs.WholePages.{cleared-whole}
+use Rattle.table_search.specs.declared.Leaf.{Leaf}
+use Rattle.table_search.specs.Places.{leftFrom}
+use Rattle.table_delete.specs.declared.entries.Remnant.{Remnant}
+use Rattle.table_delete.specs.Removing.{RemovePre, RemovePost}
+use Rattle.table_delete.specs.Taking.{LowerPre, LowerPost, TakePre, TakeAtPre, TakePost}
+use Rattle.table_delete.specs.OnePage.{NearPre, NearDone, struckAt}
+use Rattle.table_delete.proofs.Lowering.{lower-leaf, lower-stop}
+use Rattle.table_delete.proofs.QuietWays.{Quiet, LeafPage, way-page, way-quiet}
+use Rattle.table_delete.proofs.TakingOut.{take-remove, take-lower, take-post}
+
+module _ {b : List ℕ} {e P level : ℕ} (root : PageNo) {w key : ℕ} {leaf : Leaf} (pre : TakeAtPre b e P level (root .0) w key leaf) (bytes : Bytes b) where
+  remove-pre : RemovePre e P (suc level) b (rootRef (root .0)) w key (pre .first)
+  remove-pre = rw (add-one level) at (take-remove (pre .take) bytes (pre .first) (root .0) (pre .begins) refl)
+
+  leaf-page : LeafPage e P b leaf
+  leaf-page = way-page level 0 leaf remove-pre (pre .way)
+
+  -- The page found can be changed.
+  pub take-near : NearPre e b (leaf .page .0) (leaf .at)
+  take-near = record {
+    whole =
+        cleared-whole e b (leaf .page .0) bytes (within-table (layoutOf e) P (leaf .page .0) b (omega (arith, pre .take .tree .table)) (leaf-page .sized .number)) (leaf-page .sized .few)
+        (pre .take .tree .pages .cleared (leaf .page .0) (leaf-page .sized .number));
+    level = leaf-page .sized .level;
+    fitting = refs-fit (layoutOf e) b (leaf .page .0) bytes;
+    inside = leaf-page .inside;
+  }
+
+  module _ (b′ : List ℕ) (d : (suc (leaf .at) < length (pagesAt (layoutOf e) b (leaf .page .0))) × NearDone e b (leaf .page .0) (leaf .at) (struckAt (pagesAt (layoutOf e) b (leaf .page .0)) (leaf .at) (leaf .trail)) b′) where
+    quiet : Quiet e P (suc level) b (rootRef (root .0)) (leftFrom w key (pre .first)) 0 b′
+    quiet = way-quiet level 0 leaf remove-pre (pre .way) (d .0) b′ (d .1)
+
+    -- What is left of the root's entry.
+    abbrev left : Remnant
+    left = record { stays = true; depth = 0; pointer = root .0; state = Idle }
+
+    removed : RemovePost e P (level + 1) b (0, root .0) w key (pre .first) 0 0 b′ left
+    removed = rw (add-one level) (record {
+      kept = quiet .kept;
+      numbers = sym (ap (λ (o : Left (Numbered (suc level))). o .0) (quiet .left 0));
+      state = sym (ap (λ (o : Left (Numbered (suc level))). o .1) (quiet .left 0));
+    })
+
+    lower-pre : LowerPre e P level b′ (root .0)
+    lower-pre = take-lower (pre .take) (pre .begins) refl removed (root .0) refl
+
+    -- The root rule does nothing.
+    lowered : LowerPost e P level b′ (root .0) b′ (record { page = root; level = level })
+    lowered = go level refl lower-pre
+      where
+        go : (n : ℕ) → n ≡ level → LowerPre e P n b′ (root .0) → LowerPost e P n b′ (root .0) b′ (record { page = root; level = n })
+        go zero z h = lower-leaf zero root refl h
+        go (suc n) z h =
+            lower-stop (suc n) root (λ y. omega (arith, y)) h refl
+            (λ y. let k = pre .take .tree .pages .root-rule (omega (arith, z)) in
+            let same : length (pagesAt (layoutOf e) b′ (root .0)) ≡ length (pagesAt (layoutOf e) b (root .0)) = ap length (quiet .page (omega (arith, z))) in
+            omega (arith, y, k, same, length-refs (layoutOf e) (pageBytes (layoutOf e) b′ (root .0))))
+
+    -- The tree without the entry found.
+    pub near-taken : TakePost b e P level (root .0) w key b′ (record { page = root; level = level })
+    near-taken = take-post (pre .take) (pre .begins) refl removed (root .0) refl b′ (record { page = root; level = level }) lowered
+
+-- No byte was changed: the tree is as it was.
+pub far-pre : {b b₁ : List ℕ} {e P level root w key : ℕ} → b₁ ≡ b → TakePre b e P level root w key → TakePre b₁ e P level root w key
+far-pre {e = e} {P = P} {level = level} {root = root} {w = w} {key = key} z h = subst (λ (t : List ℕ). TakePre t e P level root w key) (sym z) h
+
+-- So is what is left of it.
+pub far-post : {b b₁ b₂ : List ℕ} {e P level root w key : ℕ} {r : Root} → b₁ ≡ b → TakePost b₁ e P level root w key b₂ r → TakePost b e P level root w key b₂ r
+far-post {b₂ = b₂} {e = e} {P = P} {level = level} {root = root} {w = w} {key = key} {r = r} z h = subst (λ (t : List ℕ). TakePost t e P level root w key b₂ r) z h

@@ -1,0 +1,59 @@
+-- Figure 11 where it changes one page of level 0 alone. Assumes nothing.
+use mathlib.Core.Path.{_≡_}
+use mathlib.Core.Bool.{Bool, true, false}
+use mathlib.Core.List.{List, _++_, map}
+use Prim.Native.Nat.{ℕ, suc, _≤_, _<_}
+use lib.ListN.{length, getD, take, drop}
+use Rattle.leaf_list.specs.Entries.{Entry}
+use Rattle.page_tree.specs.Rows.{lastDepth}
+use Rattle.page_tree.specs.OffPages.{Left, stepEntry, sweep, strike}
+use Rattle.page_tree.specs.declared.Unwind.the-variants.{Idle, Clear}
+use Rattle.index_table.specs.Layout.{layoutOf, Ref, pageBytes, levelOf, Fitting, rowPage, store}
+use Rattle.index_table.specs.Pages.{pagesAt, leafOf}
+use Rattle.index_table.specs.Changing.{WholePage}
+use Rattle.table_delete.specs.Keeping.{depthOf}
+
+-- A row of a page of level 0 as entries of the leaf list.
+abbrev pub leafRow : List Ref → List Entry
+leafRow row = map (leafOf 65535) row
+
+-- Where dummies deeper than g go from the right, the first r of the first n entries stay; where r is 0, none of them need stay.
+pub record Staying (row : List Ref) (n g r : ℕ) : Type 0 where
+  pub few : r ≤ n
+  pub swept : 1 ≤ r → (ys : List Entry) → sweep stepEntry (Clear g) (leafRow (take n row)) ys ≡ (leafRow (take r row) ++ ys, Idle)
+
+-- A whole page of level 0 with an entry at a place.
+pub record NearPre (e : ℕ) (b : List ℕ) (page at : ℕ) : Type 0 where
+  pub whole : WholePage e b page
+  pub level : levelOf (pageBytes (layoutOf e) b page) ≡ 0
+  pub fitting : Fitting 2 (pagesAt (layoutOf e) b page)
+  pub inside : at < length (pagesAt (layoutOf e) b page)
+
+-- Another entry stands behind it.
+pub record FollowedPre (e : ℕ) (b : List ℕ) (page at : ℕ) : Type 0 where
+  pub near : NearPre e b page at
+  pub followed : suc at < length (pagesAt (layoutOf e) b page)
+
+-- The page is stored with the row that is left, where o is what is left of the entry at the place: nothing is asked of the page before.
+pub record NearDone (e : ℕ) (b : List ℕ) (page at : ℕ) (o : Left Entry) (b′ : List ℕ) : Type 0 where
+  pub row : List Ref
+  pub bytes : b′ ≡ store (layoutOf e) b page (rowPage e 0 row)
+  pub some : 1 ≤ length row
+  pub few : length row ≤ e
+  pub fitting : Fitting 2 row
+  pub last : lastDepth depthOf 0 row ≡ lastDepth depthOf 0 (pagesAt (layoutOf e) b page)
+  pub left : sweep stepEntry (o .1) (leafRow (take at (pagesAt (layoutOf e) b page))) (o .0 ++ leafRow (drop (suc at) (pagesAt (layoutOf e) b page))) ≡ (leafRow row, Idle)
+
+-- It is so, or no byte changes.
+pub record NearPost (e : ℕ) (b : List ℕ) (page at : ℕ) (o : Left Entry) (b′ : List ℕ) (r : Bool) : Type 0 where
+  pub done : r ≡ true → NearDone e b page at o b′
+  pub none : r ≡ false → b′ ≡ b
+
+-- What figure 11 leaves of the entry at a place, between the depth before it and that of the entry behind it.
+abbrev pub struckAt : List Ref → ℕ → ℕ → Left Entry
+struckAt row at τ = strike τ (getD row (suc at) (0, 0) .0) (leafOf 65535 (getD row at (0, 0)))
+
+-- The entry has one behind it in its page, and figure 11 leaves the page so, or no byte changes.
+pub record StrikePost (e : ℕ) (b : List ℕ) (page at τ : ℕ) (b′ : List ℕ) (r : Bool) : Type 0 where
+  pub done : r ≡ true → (suc at < length (pagesAt (layoutOf e) b page)) × NearDone e b page at (struckAt (pagesAt (layoutOf e) b page) at τ) b′
+  pub none : r ≡ false → b′ ≡ b

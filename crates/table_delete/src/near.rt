@@ -1,0 +1,88 @@
+// Figure 11 where it changes one page of level 0 alone, within that page's bytes.
+ghost use mathlib.Core.Path.{_≡_};
+ghost use mathlib.Core.List.{[]};
+ghost use Prim.Native.Nat.{_≤_};
+ghost use lib.ListN.{length};
+ghost use Rattle.page_tree.specs.declared.Unwind.the-variants.{Give, Clear};
+ghost use Rattle.index_table.specs.Layout.{Within, layoutOf};
+ghost use Rattle.index_table.specs.Pages.{pagesAt};
+ghost use Rattle.table_delete.specs.OnePage.{Staying, NearPre, FollowedPre, NearPost, StrikePost};
+use crate::entries::deep;
+use index_table::close::close;
+use index_table::close::replace_entry;
+use index_table::layout::PageNo;
+use index_table::layout::count;
+use index_table::layout::depth;
+use index_table::layout::pointer;
+use index_table::layout::wide;
+
+// How many of the first n entries of a page stay, where dummies deeper than `than` go from the right.
+fn staying(index: &[u8], e: u8, page: PageNo, n: usize, than: u8) -> usize
+    requires { ⌜ Within (layoutOf e) (now index) (page .0) × (n ≤ length (pagesAt (layoutOf e) (now index) (page .0))) × (n ≤ e) ⌝ }
+    ensures { λ r. ⌜ Staying (pagesAt (layoutOf e) (now (index .entry)) (page .0)) n than r ⌝ }
+{
+    let mut i = n;
+    while 0 < i {
+        let last = i - 1;
+        if pointer(index, e, page, last) != 65535 {
+            return i;
+        }
+        if depth(index, e, page, last) <= than {
+            return i;
+        }
+        i = last;
+    }
+    i
+}
+
+// A 1-leaf goes: the entry before it takes its depth d, and dummies deeper than d before that one go.
+fn give_near(index: &mut [u8], e: u8, page: PageNo, at: usize, d: u8) -> bool
+    requires { ⌜ FollowedPre e (now index) (page .0) at ⌝ }
+    ensures { λ r. ⌜ NearPost e (now (index .entry)) (page .0) at ([], Give d) (now (index .exit)) r ⌝ }
+{
+    if at == 0 {
+        return false;
+    }
+    let before = at - 1;
+    let from = staying(index, e, page, before, d);
+    if from == 0 {
+        return false;
+    }
+    let p = pointer(index, e, page, before);
+    replace_entry(index, e, page, at, d, p);
+    close(index, e, page, from, at);
+    true
+}
+
+// An entry goes, and dummies deeper than `next` before it.
+fn clear_near(index: &mut [u8], e: u8, page: PageNo, at: usize, next: u8) -> bool
+    requires { ⌜ FollowedPre e (now index) (page .0) at ⌝ }
+    ensures { λ r. ⌜ NearPost e (now (index .entry)) (page .0) at ([], Clear next) (now (index .exit)) r ⌝ }
+{
+    let from = staying(index, e, page, at, next);
+    if from == 0 {
+        return false;
+    }
+    close(index, e, page, from, at + 1);
+    true
+}
+
+// Figure 11 at an entry of a page of level 0 with the depth before it, where it changes that page alone; whether it does.
+pub fn strike_near(index: &mut [u8], e: u8, page: PageNo, at: usize, trail: u64) -> bool
+    requires { ⌜ NearPre e (now index) (page .0) at ⌝ }
+    ensures { λ r. ⌜ StrikePost e (now (index .entry)) (page .0) at trail (now (index .exit)) r ⌝ }
+{
+    if wide(count(index, e, page)) <= at + 1 {
+        return false;
+    }
+    let d = depth(index, e, page, at);
+    let next = depth(index, e, page, at + 1);
+    if deep(d) < trail {
+        return give_near(index, e, page, at, d);
+    }
+    if next < d {
+        return clear_near(index, e, page, at, next);
+    }
+    replace_entry(index, e, page, at, d, 65535);
+    true
+}
