@@ -5,8 +5,9 @@ use lib.ListN.{length, take, drop}
 use Rattle.page_tree.specs.Row.{rowOf, partOf}
 use Rattle.page_tree.specs.OnPages.{Replacement}
 use Rattle.page_tree.specs.declared.Row.{Row}
-use Rattle.index_table.specs.Layout.{Within, layoutOf, Fitting}
+use Rattle.index_table.specs.Layout.{Within, layoutOf, pageBytes, Fitting}
 use Rattle.index_table.specs.Pages.{pagesAt, leafOf}
+use Rattle.index_table.specs.Soundness.{Cleared}
 
 pub record Storable (e : ℕ) (b : List ℕ) (p : ℕ) (row : Row) (from to : ℕ) : Type 0 where
   pub within : Within (layoutOf e) b p
@@ -31,6 +32,15 @@ pub record Spliceable (e : ℕ) (b : List ℕ) (p at : ℕ) (parts : Row) : Type
   pub few : length (pagesAt (layoutOf e) b p) ≤ e
   pub inside : at < length (pagesAt (layoutOf e) b p)
   pub room : parts .count ≤ 65
+
+-- A page whose unused entries are zero, with room for the entries of a row in the place of one of its own.
+pub record Openable (e : ℕ) (b : List ℕ) (p at : ℕ) (news : Row) : Type 0 where
+  pub within : Within (layoutOf e) b p
+  pub inside : at < length (pagesAt (layoutOf e) b p)
+  pub some : 1 ≤ news .count
+  pub room : length (pagesAt (layoutOf e) b p) + news .count ≤ suc e
+  pub fitting : Fitting 2 (rowOf news)
+  pub cleared : Cleared (layoutOf e) (pageBytes (layoutOf e) b p)
 
 -- The entries of a row in the place of the entry found, whichever it is.
 abbrev pub newLeaves : Row → Replacement

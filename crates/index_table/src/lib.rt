@@ -1,5 +1,6 @@
 // The index table as bytes: its header and its pages.
 pub mod header;
 pub mod layout;
+pub mod open;
 pub mod rows;
 pub mod write;
