@@ -2,7 +2,7 @@
 use mathlib.Core.Path.{_≡_, refl, sym, ap, ap₂, _∙_}
 use mathlib.Core.Bool.{Bool, true, false, cond}
 use mathlib.Core.List.{List}
-use Prim.Native.Nat.{ℕ, zero, suc, _+_, _-_, _^_, _≤_, _<_}
+use Prim.Native.Nat.{ℕ, suc, _+_, _-_, _^_, _≤_, _<_}
 use native.Mathlib.Omega.{arith}
 use native.Mathlib.Numerals.{add-one}
 use lib.Dec.{ltb}
@@ -16,21 +16,15 @@ use Rattle.index_table.specs.Header.{widthOf, entriesOf, pagesOf, rootOf, heldO
 use Rattle.index_table.specs.IndexNumbers.{IndexOf}
 use Rattle.index_table.specs.declared.header.Index.{Index}
 use Rattle.index_table.specs.declared.layout.Root.{Root}
-use Rattle.index_table.specs.Pages.{Pages, pagesAt, sumTo, usedPages}
+use Rattle.index_table.specs.Pages.{pagesAt, usedPages}
 use Rattle.index_table.specs.Soundness.{rootLevel, treeOf, numberedTreeOf}
 use Rattle.index_table.proofs.PageBytes.{within-table}
-use Rattle.index_table.proofs.UsedPages.{used-tree}
+use Rattle.index_table.proofs.UsedPages.{used-tree, used-few}
 use Rattle.table_change.specs.Repaging.{Changeable, Repaged, OffPagesPre, treeWith, lateRowWith, OnPagesPre, Roomy, OnPages}
 use Rattle.table_delete.specs.Taking.{TakePre, TakePost}
 use Rattle.table_insert.specs.Putting.{PutPre, PutPost}
 use Rattle.table_plan.specs.Outcomes.{OutcomePre, OutcomePost}
 use Rattle.table_plan.specs.declared.Outcome.{Outcome}
-
--- No more pages are in use than there are.
-used-few : (P : ℕ) (pages : Pages) → usedPages P pages ≤ P
-unfolding sumTo
-used-few zero pages = omega arith
-used-few (suc P) pages = omega (arith, used-few P pages)
 
 module _ {index : List ℕ} {key : ℕ} (c : Changeable index key) (h : Index) (i : IndexOf index h) where
   pub header-bytes : 16 ≤ length index
