@@ -1,5 +1,5 @@
 -- A key that is not held, with a free record: its entries, and the rows that are left. Assumes nothing.
-use mathlib.Core.Path.{_≡_, sym, subst, _∙_}
+use mathlib.Core.Path.{_≡_, sym, ap, subst, _∙_}
 use mathlib.Core.Bool.{Bool, true, false}
 use mathlib.Core.Logic.{_≢_}
 use mathlib.Core.List.{List}
@@ -13,7 +13,7 @@ use Rattle.index_table.specs.Header.{widthOf}
 use Rattle.table_search.specs.declared.Leaf.{Leaf}
 use Rattle.table_calls.specs.Places.{FoundLeaf}
 use Rattle.table_calls.proofs.FoundLeaves.{live-inside}
-use Rattle.table_change.specs.Changes.{isHeld, onRowOf}
+use Rattle.table_change.specs.Changes.{isSome, isHeld, onRowOf}
 use Rattle.table_change.specs.Entries.{FoundPre, NewEntries}
 use Rattle.table_change.specs.News.{keyIs, FreeRecord, NewKey}
 use Rattle.table_change.specs.Repaging.{lateRowWith, OnPagesPre}
@@ -51,9 +51,12 @@ module _ {index keys used : List ℕ} {key r : ℕ} (h : FreeRecord index keys u
               news-for = news-made (h .sound) key (h .narrow) leaf at r news none-held (subst (λ (m : ℕ). NewEntries keys m key r leaf news) width n);
             }
 
-        pub late-pre : OnPagesPre index key news
-        late-pre = splice-pre h news (new-key .news-for)
+-- ---- a key that rows 2 to 5 let pass
 
-        -- Rows 8 and 7.
-        pub late-row-is : {late : ℕ} → late ≡ lateRowWith index key news → onRowOf index keys used key r ≡ late
-        late-row-is q = on-late h absent news (new-key .news-for) ∙ sym q
+module _ {index keys used : List ℕ} {key r : ℕ} {news : Row} (h : NewKey index keys used key r news) where
+  pub late-pre : OnPagesPre index key news
+  late-pre = splice-pre (h .free-record) news (h .news-for)
+
+  -- Rows 8 and 7.
+  pub late-row-is : {late : ℕ} → late ≡ lateRowWith index key news → onRowOf index keys used key r ≡ late
+  late-row-is q = on-late (h .free-record) (ap isSome (h .absent)) news (h .news-for) ∙ sym q

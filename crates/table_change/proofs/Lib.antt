@@ -7,3 +7,4 @@ pub mod Changed
 pub mod Repaged
 pub mod RowChoice
 pub mod Entering
+pub mod Opening

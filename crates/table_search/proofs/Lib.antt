@@ -1,3 +1,4 @@
 pub mod NextPositions
 pub mod Stops
 pub mod Descents
+pub mod WayEnds
