@@ -6,13 +6,11 @@ use native.Mathlib.Omega.{arith}
 use native.Mathlib.Numerals.{add-one}
 use lib.ListN.{length, getD, take, drop, set, replicate, length-set, length-take, length-drop, length-append, length-replicate, take-append-drop}
 use lib.Seq.{sets, sets-eq, set-comm, set-set, set-getD, drop-cons, take-take, drop-drop, take-add, take-at, drop-at, split-at, take-append-add, drop-append-add, length-take-le}
-use Rattle.page_tree.specs.Row.{rowOf}
-use Rattle.page_tree.specs.declared.Row.{Row}
 use Rattle.index_table.specs.Bytes.{AllZero, number, numberAfter, over, table}
 use Rattle.index_table.specs.Layout.{Layout, layoutOf, Ref, pageSize, pageStart, Within, pageBytes, levelOf, countOf, firstRef, refAt, refsOf, refBytes, rowBytes, pageOf, rowPage, store}
 use Rattle.index_table.specs.Pages.{pagesAt}
 use Rattle.index_table.specs.Soundness.{Cleared}
-use Rattle.index_table.specs.Storing.{Openable, splicedAt}
+use Rattle.index_table.specs.Storing.{Openable, Opened, splicedAt}
 use Rattle.index_table.proofs.ListLaws.{length-over, over-none, take-drop, getD-over-before, drop-table}
 use Rattle.index_table.proofs.NumberLaws.{bytes-two, Bytes, drop-bytes, take-bytes}
 use Rattle.index_table.proofs.PageBytes.{length-page-bytes}
@@ -269,7 +267,7 @@ module _ (e level : ℕ) (before : List Ref) (y : Ref) (after news : List Ref) (
 
 -- ---- in the table
 
-module _ {e : ℕ} {b : List ℕ} {p at : ℕ} {news : Row} (pre : Openable e b p at news) (small : Bytes b) (full : length (rowOf news) ≡ news .count) where
+module _ {e : ℕ} {b : List ℕ} {p at c : ℕ} (pre : Openable e b p at c) (small : Bytes b) where
   abbrev L : Layout
   L = layoutOf e
 
@@ -315,32 +313,43 @@ module _ {e : ℕ} {b : List ℕ} {p at : ℕ} {news : Row} (pre : Openable e b 
   unfolding pageBytes
   whole = sym (over-self b start (pageSize L) 0 (pre .within))
 
-  -- The page with the new row.
-  pub page-opened : {b₁ b₂ : List ℕ} {s n c : ℕ} → s ≡ start → n ≡ length refs → c ≡ news .count
-      → b₁ ≡ over b (s + (2 + 3 * at) + 3 + 3 * (c - 1)) (take (3 * (n - at - 1)) (drop (s + (2 + 3 * at) + 3) b)) → b₂ ≡ over b₁ (s + (2 + 3 * at)) (rowBytes 2 (rowOf news))
-      → set b₂ (s + 1) (n + c - 1) ≡ store L b p (rowPage e (levelOf page) (splicedAt at (rowOf news) refs))
-  page-opened {b₁} {b₂} {s} {n} {c} hs hn hc h₁ h₂ =
-      let page₁ : List ℕ = over page (2 + 3 * at + 3 * length (rowOf news)) (rowBytes 2 (drop (suc at) refs)) in
-      let page₂ : List ℕ = over page₁ (2 + 3 * at) (rowBytes 2 (rowOf news)) in
-      let l₁ : length page₁ ≡ length page = length-over page (2 + 3 * at + 3 * length (rowOf news)) (rowBytes 2 (drop (suc at) refs)) in
-      let l₂ : length page₂ ≡ length page₁ = length-over page₁ (2 + 3 * at) (rowBytes 2 (rowOf news)) in
-      let place : s + (2 + 3 * at) + 3 + 3 * (c - 1) ≡ start + (2 + 3 * at + 3 * length (rowOf news)) = omega (arith, hs, hc, full, pre .some) in
+  -- Once a row is written into the room, the page has it in the place of the entry.
+  page-filled : (row : List Ref) → length row ≡ c → {b₁ : List ℕ} → b₁ ≡ over b (start + (2 + 3 * at) + 3 + 3 * (c - 1)) (rowBytes 2 (drop (suc at) refs))
+      → over (set b₁ (start + 1) (length refs + c - 1)) (start + (2 + 3 * at)) (rowBytes 2 row) ≡ store L b p (rowPage e (levelOf page) (splicedAt at row refs))
+  page-filled row full {b₁} h₁ =
+      let page₁ : List ℕ = over page (2 + 3 * at + 3 * length row) (rowBytes 2 (drop (suc at) refs)) in
+      let page₂ : List ℕ = over page₁ (2 + 3 * at) (rowBytes 2 row) in
+      let l₁ : length page₁ ≡ length page = length-over page (2 + 3 * at + 3 * length row) (rowBytes 2 (drop (suc at) refs)) in
+      let l₂ : length page₂ ≡ length page₁ = length-over page₁ (2 + 3 * at) (rowBytes 2 row) in
+      let place : start + (2 + 3 * at) + 3 + 3 * (c - 1) ≡ start + (2 + 3 * at + 3 * length row) = omega (arith, full, pre .some) in
       let g₁ : b₁ ≡ store L b p page₁ =
       h₁
-      ∙ ap₂ (λ (k : ℕ) (l : List ℕ). over b k l) place (rw (hs, hn) after-bytes)
-      ∙ ap (λ (l : List ℕ). over l (start + (2 + 3 * at + 3 * length (rowOf news))) (rowBytes 2 (drop (suc at) refs))) whole
-      ∙ over-inside b start (2 + 3 * at + 3 * length (rowOf news)) page (rowBytes 2 (drop (suc at) refs)) (omega (arith, long, length-row-bytes 2 (drop (suc at) refs), after-long, full, pre .inside, pre .room)) in
-      let g₂ : b₂ ≡ store L b p page₂ =
-      h₂
-      ∙ ap₂ (λ (l : List ℕ) (k : ℕ). over l (k + (2 + 3 * at)) (rowBytes 2 (rowOf news))) g₁ hs
-      ∙ over-inside b start (2 + 3 * at) page₁ (rowBytes 2 (rowOf news)) (omega (arith, long, l₁, length-row-bytes 2 (rowOf news), full, pre .inside, pre .room)) in
-      let total : n + c - 1 ≡ length (take at refs ++ rowOf news ++ drop (suc at) refs) =
-      sym (length-append (take at refs ++ rowOf news) (drop (suc at) refs) ∙ omega (arith, length-append (take at refs) (rowOf news), before-long, after-long, full, hn, hc, pre .inside, pre .some)) in
+      ∙ ap (λ (k : ℕ). over b k (rowBytes 2 (drop (suc at) refs))) place
+      ∙ ap (λ (l : List ℕ). over l (start + (2 + 3 * at + 3 * length row)) (rowBytes 2 (drop (suc at) refs))) whole
+      ∙ over-inside b start (2 + 3 * at + 3 * length row) page (rowBytes 2 (drop (suc at) refs)) (omega (arith, long, length-row-bytes 2 (drop (suc at) refs), after-long, full, pre .inside, pre .room)) in
+      let g₂ : over b₁ (start + (2 + 3 * at)) (rowBytes 2 row) ≡ store L b p page₂ =
+      ap (λ (l : List ℕ). over l (start + (2 + 3 * at)) (rowBytes 2 row)) g₁
+      ∙ over-inside b start (2 + 3 * at) page₁ (rowBytes 2 row) (omega (arith, long, l₁, length-row-bytes 2 row, full, pre .inside, pre .room)) in
+      let total : length refs + c - 1 ≡ length (take at refs ++ row ++ drop (suc at) refs) =
+      sym (length-append (take at refs ++ row) (drop (suc at) refs) ∙ omega (arith, length-append (take at refs) row, before-long, after-long, full, pre .inside, pre .some)) in
       let first : 2 + 3 * at ≡ 2 + 3 * length (take at refs) = omega (arith, before-long) in
       let page-row : page ≡ rowPage e (levelOf page) (take at refs ++ getD refs at (0, 0) ∷ drop (suc at) refs) =
       page-is e page bytes long (omega (arith, count-is, pre .room, pre .some)) (pre .cleared) ∙ ap (rowPage e (levelOf page)) parted in
-      ap₂ (λ (l : List ℕ) (k : ℕ). set l (k + 1) (n + c - 1)) g₂ hs
-      ∙ set-inside b start 1 page₂ (n + c - 1) (omega (arith, l₁, l₂, long))
+      sym (set-over b₁ (start + (2 + 3 * at)) (rowBytes 2 row) (start + 1) (length refs + c - 1) (omega arith))
+      ∙ ap (λ (l : List ℕ). set l (start + 1) (length refs + c - 1)) g₂
+      ∙ set-inside b start 1 page₂ (length refs + c - 1) (omega (arith, l₁, l₂, long))
       ∙ ap (store L b p)
-      ((λ i. set (over (over (page-row i) (first i + 3 * length (rowOf news)) (rowBytes 2 (drop (suc at) refs))) (first i) (rowBytes 2 (rowOf news))) 1 (total i))
-      ∙ row-opened e (levelOf page) (take at refs) (getD refs at (0, 0)) (drop (suc at) refs) (rowOf news) (omega (arith, full, pre .some)) (omega (arith, before-long, after-long, full, pre .inside, pre .room)))
+      ((λ i. set (over (over (page-row i) (first i + 3 * length row) (rowBytes 2 (drop (suc at) refs))) (first i) (rowBytes 2 row)) 1 (total i))
+      ∙ row-opened e (levelOf page) (take at refs) (getD refs at (0, 0)) (drop (suc at) refs) row (omega (arith, full, pre .some)) (omega (arith, before-long, after-long, full, pre .inside, pre .room)))
+
+  -- The page with the room.
+  pub page-opened : {b₁ : List ℕ} {s n : ℕ} → s ≡ start → n ≡ length refs → b₁ ≡ over b (s + (2 + 3 * at) + 3 + 3 * (c - 1)) (take (3 * (n - at - 1)) (drop (s + (2 + 3 * at) + 3) b))
+      → Opened e b p at c (set b₁ (s + 1) (n + c - 1)) (s + (2 + 3 * at))
+  page-opened {b₁} {s} {n} hs hn h₁ =
+      let tail = take (3 * (n - at - 1)) (drop (s + (2 + 3 * at) + 3) b) in
+      let moved : b₁ ≡ over b (start + (2 + 3 * at) + 3 + 3 * (c - 1)) (rowBytes 2 (drop (suc at) refs)) = h₁ ∙ rw (hs, hn) (ap (over b (start + (2 + 3 * at) + 3 + 3 * (c - 1))) after-bytes) in
+      record {
+        long = length-set b₁ (s + 1) (n + c - 1) ∙ ap length moved ∙ length-over b (start + (2 + 3 * at) + 3 + 3 * (c - 1)) (rowBytes 2 (drop (suc at) refs));
+        inside = omega (arith, hs, pre .within, pre .inside, pre .room);
+        filled = λ row full. rw (hs, hn) (page-filled row full moved);
+      }

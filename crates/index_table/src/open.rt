@@ -1,18 +1,13 @@
-// Entries put into a page that has room for them, in the page's own bytes.
+// Room made in a page for more entries, in the page's own bytes.
 ghost use mathlib.Core.Path.{_≡_};
 ghost use Prim.Native.Nat.{_+_, _≤_};
 ghost use lib.ListN.{length, take, drop};
 ghost use Rattle.index_table.specs.Bytes.{over};
-ghost use Rattle.index_table.specs.Layout.{layoutOf, pageBytes, levelOf, rowPage, store};
-ghost use Rattle.index_table.specs.Pages.{pagesAt};
-ghost use Rattle.index_table.specs.Storing.{Openable, splicedAt};
-ghost use Rattle.page_tree.specs.Row.{rowOf};
+ghost use Rattle.index_table.specs.Storing.{Openable, Opened};
 use crate::layout::PageNo;
 use crate::layout::count;
 use crate::layout::page_start;
 use crate::layout::wide;
-use crate::write::write_row;
-use page_tree::Row;
 
 // n bytes from one place on, moved up; the last first.
 fn move_up(index: &mut [u8], from: usize, n: usize, by: usize)
@@ -27,16 +22,15 @@ fn move_up(index: &mut [u8], from: usize, n: usize, by: usize)
     }
 }
 
-// The entries of a row in the place of entry `at` of a page that has room for them.
-pub fn open_page(index: &mut [u8], e: u8, page: PageNo, at: usize, news: Row)
-    requires { ⌜ Openable e (now index) (page .0) at news ⌝ }
-    ensures { λ r. ⌜ now (index .exit) ≡ store (layoutOf e) (now (index .entry)) (page .0) (rowPage e (levelOf (pageBytes (layoutOf e) (now (index .entry)) (page .0))) (splicedAt at (rowOf news) (pagesAt (layoutOf e) (now (index .entry)) (page .0)))) ⌝ }
+// Room for c entries in the place of entry `at` of a page, counted as its own; where it starts.
+pub fn open_page(index: &mut [u8], e: u8, page: PageNo, at: usize, c: usize) -> usize
+    requires { ⌜ Openable e (now index) (page .0) at c ⌝ }
+    ensures { λ r. ⌜ Opened e (now (index .entry)) (page .0) at c (now (index .exit)) r ⌝ }
 {
     let start = page_start(e, page);
     let n = wide(count(index, e, page));
-    let c = news.count;
     let place = start + (2 + 3 * at);
     move_up(index, place + 3, 3 * (n - at - 1), 3 * (c - 1));
-    write_row(index, place, news, 0, c);
     index[start + 1] = (n + c - 1) as u8;
+    place
 }

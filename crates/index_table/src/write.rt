@@ -75,7 +75,7 @@ pub fn clear(index: &mut [u8], at: usize, n: usize)
 }
 
 // The entries of a row from one place up to another, one behind the other.
-pub fn write_row(index: &mut [u8], at: usize, row: Row, from: usize, to: usize)
+fn write_row(index: &mut [u8], at: usize, row: Row, from: usize, to: usize)
     requires { ⌜ (at + 3 * (to - from) ≤ length (now index)) × (from ≤ to) × (to ≤ 319) × Fitting 2 (partOf row from to) ⌝ }
     ensures { λ r. ⌜ now (index .exit) ≡ over (now (index .entry)) at (rowBytes 2 (partOf row from to)) ⌝ }
 {

@@ -1,5 +1,6 @@
 pub mod Dummies
 pub mod NewLeaves
+pub mod NewsWriting
 pub mod Rerooted
 pub mod SoundAfter
 pub mod FoundEntries

@@ -20,9 +20,11 @@ use Rattle.index_table.specs.Header.{widthOf, entriesOf, pagesOf, rootOf, heldO
 use Rattle.index_table.specs.Pages.{pagesAt, numberedTreeAt}
 use Rattle.index_table.specs.Soundness.{SoundPages, rootLevel, treeOf, numberedTreeOf, leafEntries}
 use Rattle.index_table.specs.Standing.{TreeTable}
-use Rattle.index_table.specs.Storing.{newLeaves, splicedAt, Openable}
+use Rattle.index_table.specs.Storing.{newLeaves, splicedAt, rowWith, Openable}
 use Rattle.table_search.specs.declared.Leaf.{Leaf}
 use Rattle.table_calls.specs.Places.{FoundLeaf}
+use Rattle.table_change.specs.declared.entries.News.{News}
+use Rattle.table_change.specs.Entries.{refsFor, Newly}
 use Rattle.table_change.specs.News.{foundFor, NewKey}
 
 -- The index table as the change of pages needs it: its tree is sound, and a record more may be held.
@@ -86,19 +88,29 @@ pub record OnPages (index : List ℕ) (key : ℕ) (news : Row) (index₁ : List 
 abbrev pub roomFor : List ℕ → ℕ → ℕ → Bool
 roomFor index p n = leb (length (pagesAt (layoutOf (entriesOf index)) index p) + n) (suc (entriesOf index))
 
-pub record OpenPre (index : List ℕ) (p at : ℕ) (news : Row) : Type 0 where
+pub record OpenPre (index : List ℕ) (p at key : ℕ) (n : News) : Type 0 where
   pub header : 16 ≤ length index
   pub held : heldOf index ≤ 65534
-  pub openable : Openable (entriesOf index) index p at news
+  pub openable : Openable (entriesOf index) index p at (n .count)
+  pub newly : Newly (widthOf index) key n
 
--- The index table with the entries of a row in the place of entry `at` of page p, and one record more held.
-abbrev pub openedWith : List ℕ → ℕ → ℕ → Row → List ℕ
-openedWith index p at news =
+-- The index table with entries in the place of entry `at` of page p, and one record more held.
+abbrev pub openedWith : List ℕ → ℕ → ℕ → List Ref → List ℕ
+openedWith index p at refs =
     (let L = layoutOf (entriesOf index) in
-    withHeld (store L index p (rowPage (entriesOf index) (levelOf (pageBytes L index p)) (splicedAt at (rowOf news) (pagesAt L index p)))) (suc (heldOf index)))
+    withHeld (store L index p (rowPage (entriesOf index) (levelOf (pageBytes L index p)) (splicedAt at refs (pagesAt L index p)))) (suc (heldOf index)))
 
--- A new key whose entries fit into the page found.
-pub record FittingKey (index keys used : List ℕ) (key r : ℕ) (leaf : Leaf) (news : Row) : Type 0 where
-  pub new-key : NewKey index keys used key r news
+-- The row of new entries.
+abbrev pub rowFor : List ℕ → ℕ → News → Row
+rowFor index key n = rowWith (refsFor (widthOf index) key n)
+
+-- A new key with its entries, and the page found.
+pub record FoundKey (index keys used : List ℕ) (key r : ℕ) (leaf : Leaf) (n : News) : Type 0 where
+  pub new-key : NewKey index keys used key r (rowFor index key n)
+  pub newly : Newly (widthOf index) key n
   pub found : FoundLeaf index keys used key leaf
-  pub room : roomFor index (leaf .page .0) (news .count) ≡ true
+
+-- They fit into the page found.
+pub record FittingKey (index keys used : List ℕ) (key r : ℕ) (leaf : Leaf) (n : News) : Type 0 where
+  pub found-key : FoundKey index keys used key r leaf n
+  pub room : roomFor index (leaf .page .0) (n .count) ≡ true

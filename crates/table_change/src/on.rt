@@ -3,10 +3,10 @@ ghost use mathlib.Core.Path.{_≡_};
 ghost use Prim.Native.Nat.{_<_};
 ghost use lib.ListN.{length, set};
 ghost use Rattle.index_table.specs.Soundness.{Sound};
-ghost use Rattle.table_calls.specs.Places.{FoundLeaf};
 ghost use Rattle.table_change.specs.Changes.{OnDone, OnChanges};
 ghost use Rattle.table_change.specs.News.{NewKey, FreeRecord};
-ghost use Rattle.table_change.specs.Repaging.{Roomy, FittingKey};
+ghost use Rattle.table_change.specs.Repaging.{Roomy, FoundKey, FittingKey};
+use crate::entries::News;
 use page_tree::Row;
 use table_calls::answer::Answer;
 use table_search::Leaf;
@@ -29,12 +29,12 @@ fn open_on(
     key: u64,
     record: u32,
     leaf: Leaf,
-    news: Row,
+    news: News,
 )
     requires { ⌜ FittingKey (now index) (now keys) (now used) key «record» leaf news ⌝ }
     ensures { λ r. ⌜ OnDone (now (index .entry)) (now (keys .entry)) (now (used .entry)) key «record» (now (index .exit)) (now (keys .exit)) (now (used .exit)) ⌝ }
 {
-    crate::pages::open_leaf(index, leaf.page, leaf.at, news);
+    crate::pages::open_leaf(index, leaf.page, leaf.at, key, news);
     enter(keys, used, key, record);
 }
 
@@ -75,16 +75,18 @@ fn place_on(
     key: u64,
     record: u32,
     leaf: Leaf,
-    news: Row,
+    news: News,
 ) -> Answer
-    requires { ⌜ NewKey (now index) (now keys) (now used) key «record» news × FoundLeaf (now index) (now keys) (now used) key leaf ⌝ }
+    requires { ⌜ FoundKey (now index) (now keys) (now used) key «record» leaf news ⌝ }
     ensures { λ r. ⌜ OnChanges (now (index .entry)) (now (keys .entry)) (now (used .entry)) key «record» (now (index .exit)) (now (keys .exit)) (now (used .exit)) r ⌝ }
 {
     if crate::pages::has_room(index, leaf.page, news.count) {
         open_on(index, keys, used, key, record, leaf, news);
         return Answer::plain(0);
     }
-    cut_on(index, keys, used, key, record, news)
+    let w = index_table::header::width(index);
+    let row = crate::news::row_of(w, key, news);
+    cut_on(index, keys, used, key, record, row)
 }
 
 // Row 5, 8 or 7, or the key is put in with a free record.

@@ -6,7 +6,9 @@ ghost use Rattle.page_tree.specs.Numbered.{offNumbered};
 ghost use Rattle.index_table.specs.Header.{widthOf, entriesOf, heldOf};
 ghost use Rattle.index_table.specs.Layout.{Within, layoutOf};
 ghost use Rattle.index_table.specs.Soundness.{numberedTreeOf};
+ghost use Rattle.table_change.specs.Entries.{refsFor};
 ghost use Rattle.table_change.specs.Repaging.{OffPagesPre, Repaged, lateRowWith, OnPagesPre, Roomy, OnPages, roomFor, OpenPre, openedWith};
+use crate::entries::News;
 use index_table::header::Index;
 use index_table::layout::PageNo;
 use page_tree::Row;
@@ -64,13 +66,14 @@ pub fn has_room(index: &[u8], page: PageNo, n: usize) -> bool
     index_table::layout::wide(m) + n <= index_table::layout::wide(e) + 1
 }
 
-// Entries are put in the place of entry `at` of a page that has room for them.
-pub fn open_leaf(index: &mut [u8], page: PageNo, at: usize, news: Row)
-    requires { ⌜ OpenPre (now index) (page .0) at news ⌝ }
-    ensures { λ r. ⌜ now (index .exit) ≡ openedWith (now (index .entry)) (page .0) at news ⌝ }
+// New entries are put in the place of entry `at` of a page that has room for them.
+pub fn open_leaf(index: &mut [u8], page: PageNo, at: usize, key: u64, news: News)
+    requires { ⌜ OpenPre (now index) (page .0) at key news ⌝ }
+    ensures { λ r. ⌜ now (index .exit) ≡ openedWith (now (index .entry)) (page .0) at (refsFor (widthOf (now (index .entry))) key news) ⌝ }
 {
     let h = index_table::header::read(index);
-    index_table::open::open_page(index, h.entries, page, at, news);
+    let place = index_table::open::open_page(index, h.entries, page, at, news.count);
+    crate::news::write_news(index, place, wide(h.width), key, news);
     index_table::write::set_held(index, h.held + 1);
 }
 

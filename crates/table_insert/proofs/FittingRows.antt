@@ -22,10 +22,11 @@ use Rattle.page_tree.proofs.RowLaws.{Full}
 use Rattle.index_table.specs.Layout.{Layout, layoutOf, Ref, pageBytes, Fitting, rowPage, store}
 use Rattle.index_table.specs.Pages.{pagesAt, leafOf, nodeAt, treeAt, usedPages}
 use Rattle.index_table.specs.Standing.{TreeTable}
-use Rattle.index_table.specs.Storing.{newLeaves, splicedAt}
+use Rattle.index_table.specs.Storing.{newLeaves, splicedAt, rowWith}
 use Rattle.index_table.specs.declared.layout.Root.{Root}
 use Rattle.index_table.proofs.PageBytes.{within-table}
 use Rattle.index_table.proofs.Frames.{stored-refs}
+use Rattle.index_table.proofs.LoadedRows.{row-with}
 use Rattle.index_table.proofs.SoundNodes.{sound-depths}
 use Rattle.index_table.proofs.UsedPages.{used-tree, used-few}
 use Rattle.table_search.specs.declared.Leaf.{Leaf}
@@ -43,15 +44,6 @@ use Rattle.table_insert.proofs.RootSteps.{root-alone}
 use Rattle.table_insert.proofs.Puttings.{root-descend, put-insert, put-grow, put-done}
 
 -- ---- rows as values
-
--- A row of given entries.
-abbrev rowWith : List Ref → Row
-rowWith l = record { depths = map (λ (x : Ref). x .0) l; pointers = map (λ (x : Ref). x .1) l; count = length l }
-
-row-with : (l : List Ref) → rowOf (rowWith l) ≡ l
-unfolding zip zipWith
-row-with [] = refl
-row-with (x ∷ l) = ap (λ (r : List Ref). x ∷ r) (row-with l)
 
 -- A row of one entry, all places there.
 abbrev rowOfOne : Ref → Row

@@ -1,8 +1,6 @@
--- The tail is moved, the row written into the room, and the count set. Assumes nothing.
-use mathlib.Core.Path.{refl, _∙_}
+-- The tail is moved, and the count set. Assumes nothing.
 use native.Mathlib.Omega.{arith}
 use lib.ListN.{length-set}
-use Rattle.page_tree.proofs.RowLaws.{length-row}
 use Rattle.index_table.proofs.LoadedRows.{entries-counted}
 use Rattle.index_table.proofs.OpenedPages.{page-opened}
 use borrow.Author.Needs.{needs}
@@ -54,9 +52,6 @@ move-up-requires c κs =
     let pre = c .before .before .before .before .before .before .pre in
     omega (arith, entries-counted _ _ _ (c .before .wide .ensures .0) (c .before .before .count .ensures), c .before .before .before .before .page-start .ensures, pre .inside, pre .room, pre .some, pre .within)
 
-write-row-requires : tie.Need-write-row-requires
-write-row-requires c κs = search needs
-
 add-index : tie.Need-add-index
 add-index c = search needs
 
@@ -65,8 +60,8 @@ sub-index c = search needs
 
 cast-index : tie.Need-cast-index
 cast-index c =
-    let pre = c .before .before .before .before .before .before .before .before .before .before .before .before .before .pre in
-    omega (arith, entries-counted _ _ _ (c .before .before .before .before .before .before .before .before .wide .ensures .0) (c .before .before .before .before .before .before .before .before .before .count .ensures), pre .inside, pre .room, pre .some)
+    let pre = c .before .before .before .before .before .before .before .before .before .pre in
+    omega (arith, entries-counted _ _ _ (c .before .before .before .before .wide .ensures .0) (c .before .before .before .before .before .count .ensures), pre .inside, pre .room, pre .some)
 
 add-index-2 : tie.Need-add-index-2
 add-index-2 c = search needs
@@ -75,12 +70,11 @@ slice-write-index : tie.Need-slice-write-index
 slice-write-index c = search needs
 
 same-length : tie.Need-same-length
-same-length c = simp length-set (c .before .before .write-row .kept .0 ∙ c .before .before .before .before .before .before .move-up .kept .0)
+same-length c = simp length-set (c .before .before .move-up .kept .0)
 
 returns : tie.Need-returns
 returns c =
-    let start = c .before .before .before .before .before .before .before .before .before .before .before .before .before in
-    page-opened (start .pre) (λ i. omega (arith, c .before .before .before .before .before .before .before .before .before .before .before .before .slice-known .given i)) (length-row (start .args .news) (search needs, search needs) (omega (arith, start .pre .room))) (c .before .before .before .before .before .before .before .before .before .before .before .page-start .ensures) (entries-counted _ _ _ (c .before .before .before .before .before .before .before .before .wide .ensures .0) (c .before .before .before .before .before .before .before .before .before .count .ensures)) refl (c .before .before .before .before .before .before .move-up .ensures) (c .before .before .write-row .ensures)
+    page-opened (c .before .before .before .before .before .before .before .before .before .pre) (λ i. omega (arith, c .before .before .before .before .before .before .before .before .slice-known .given i)) (c .before .before .before .before .before .before .before .page-start .ensures) (entries-counted _ _ _ (c .before .before .before .before .wide .ensures .0) (c .before .before .before .before .before .count .ensures)) (c .before .before .move-up .ensures)
 
 pub open-page-spec : {M : Type 1} → statement M
 open-page-spec =
@@ -99,7 +93,6 @@ open-page-spec =
     sub-move-up-3
     mul-move-up-2
     move-up-requires
-    write-row-requires
     add-index
     sub-index
     cast-index

@@ -2,7 +2,7 @@
 use native.Mathlib.Omega.{arith}
 use Rattle.index_table.proofs.SoundTables.{header-long}
 use Rattle.table_change.proofs.RowChoice.{on-refused}
-use Rattle.table_change.proofs.Entering.{leaf-inside, row-five, entries-pre, new-key}
+use Rattle.table_change.proofs.Entering.{leaf-inside, row-five, entries-pre, found-key}
 use borrow.Author.Needs.{needs}
 use Rattle.table_change.proofs.on.on_free.Statement.{statement}
 use Rattle.table_change.proofs.on.on_free.Tie as tie
@@ -37,11 +37,7 @@ new-entries-requires : tie.Need-new-entries-requires
 new-entries-requires c κs = entries-pre (c .before .before .before .before .before .before .before .before .before .before .before .before .before .pre) _ (c .before .before .before .before .before .before .leaf-of .ensures) (c .before .before .before .before .is-key .ensures) (c .before .before .before .if1 .left) (c .before .width .ensures .0)
 
 place-on-requires : tie.Need-place-on-requires
-place-on-requires c κs =
-    let searched = c .before .before .before .before .before .before .before .before .before .before in (
-      new-key (c .before .before .before .before .before .before .before .before .before .before .before .before .before .before .before .before .before .pre) _ (searched .leaf-of .ensures) (c .before .before .before .before .before .before .before .before .is-key .ensures) (c .before .before .before .before .before .before .before .if1 .left) (c .before .before .before .before .before .width .ensures .0) (c .before .before .before .new-entries .ensures),
-      searched .leaf-of .ensures,
-    )
+place-on-requires c κs = found-key (c .before .before .before .before .before .before .before .before .before .before .before .before .before .before .before .before .before .pre) _ (c .before .before .before .before .before .before .before .before .before .before .leaf-of .ensures) (c .before .before .before .before .before .before .before .before .is-key .ensures) (c .before .before .before .before .before .before .before .if1 .left) (c .before .before .before .before .before .width .ensures .0) (c .before .before .before .new-entries .ensures)
 
 same-length-4 : tie.Need-same-length-4
 same-length-4 c = search needs

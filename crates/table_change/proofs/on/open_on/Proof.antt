@@ -1,7 +1,5 @@
 -- A new key put into the page found and into the register. Assumes nothing.
-use mathlib.Core.Path.{sym}
 use native.Mathlib.Omega.{arith}
-use Rattle.page_tree.proofs.RowLaws.{length-row}
 use Rattle.table_change.proofs.Opening.{open-pre, open-done}
 use borrow.Author.Needs.{needs}
 use Rattle.table_change.proofs.on.open_on.Statement.{statement}
@@ -12,7 +10,7 @@ open-leaf-requires c κs = open-pre (c .before .before .before .before .pre)
 
 enter-requires : tie.Need-enter-requires
 enter-requires c κs =
-    let free = c .before .before .before .before .before .before .before .before .before .pre .new-key .free-record in
+    let free = c .before .before .before .before .before .before .before .before .before .pre .found-key .new-key .free-record in
     (omega (arith, free .inside, free .sound .lengths .register), free .inside)
 
 same-length : tie.Need-same-length
@@ -25,11 +23,15 @@ same-length-3 : tie.Need-same-length-3
 same-length-3 c = search needs
 
 returns : tie.Need-returns
-returns c =
-    let start = c .before .before .before .before .before .before .before .before .before .before .before .before .before .before in
-    open-done (start .pre) (λ i. omega (arith, c .before .before .before .before .before .before .before .before .before .before .before .before .before .slice-known .given i)) (length-row (start .args .news) (search needs, search needs) (omega (arith, start .pre .new-key .news-for .few, start .pre .new-key .free-record .sound .limits .width-high))) (c .before .before .before .before .before .before .before .before .before .open-leaf .ensures) (c .before .before .before .before .enter .ensures .0) (c .before .before .before .before .enter .ensures .1)
+returns c = open-done (c .before .before .before .before .before .before .before .before .before .before .before .before .before .before .pre) (λ i. omega (arith, c .before .before .before .before .before .before .before .before .before .before .before .before .before .slice-known .given i)) (c .before .before .before .before .before .before .before .before .before .open-leaf .ensures) (c .before .before .before .before .enter .ensures .0) (c .before .before .before .before .enter .ensures .1)
 
 pub open-on-spec : {M : Type 1} → statement M
 open-on-spec =
     tie.close
-    (tie.spec open-leaf-requires enter-requires same-length same-length-2 same-length-3 returns)
+    (tie.spec
+    open-leaf-requires
+    enter-requires
+    same-length
+    same-length-2
+    same-length-3
+    returns)
