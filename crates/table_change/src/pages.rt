@@ -81,10 +81,10 @@ pub fn open_leaf(index: &mut [u8], page: PageNo, at: usize, key: u64, news: News
     requires { ⌜ OpenPre (now index) (page .0) at key news ⌝ }
     ensures { λ r. ⌜ now (index .exit) ≡ openedWith (now (index .entry)) (page .0) at (refsFor (widthOf (now (index .entry))) key news) ⌝ }
 {
-    let h = index_table::header::read(index);
-    let place = index_table::open::open_page(index, h.entries, page, at, news.count);
-    crate::news::write_news(index, place, wide(h.width), key, news);
-    index_table::write::set_held(index, h.held + 1);
+    let head = index_table::header::read(index);
+    let place = index_table::open::open_page(index, head.entries, page, at, news.count);
+    crate::news::write_news(index, place, wide(head.width), key, news);
+    index_table::write::set_held(index, head.held + 1);
 }
 
 // Entries are put in the place of the one that figure 6 finds for a key.
