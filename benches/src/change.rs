@@ -1,8 +1,8 @@
 //! The measures of one herd that is changed: keys are put on and taken off again.
 
-use crate::herd::{tables, tags};
+use crate::herd::Herd;
 use crate::library::{check, off, on};
-use crate::rounds::{median, quiet_rounds, time, together, Beside, LOOKED_FOR};
+use crate::rounds::{median, quiet_rounds, time, together, Beside, LOOKED_FOR, TESTED};
 use model::random::Random;
 use model::table::Tables;
 use std::collections::BTreeMap;
@@ -49,10 +49,11 @@ fn once(call: impl FnOnce()) -> f64 {
 }
 
 impl Bench {
-    fn new(records: usize) -> Bench {
-        let mut held = tags(&mut Random::new(records as u64), records + LOOKED_FOR);
+    fn new(herd: Herd) -> Bench {
+        let records = herd.records;
+        let mut held = herd.tags(&mut Random::new(records as u64), records + LOOKED_FOR);
         let keys = held.split_off(records);
-        let tables = tables(&held, 1);
+        let tables = herd.tables(&held, 1);
         let mut bench = Bench {
             copy: tables.clone(),
             tables,
@@ -68,7 +69,7 @@ impl Bench {
 
     /// The calls do what they are measured for.
     fn test(&mut self) {
-        for number in 0..500 {
+        for number in 0..TESTED {
             assert!(check(&self.tables), "the tables are sound");
             let key = self.keys[number];
             assert_eq!(on(&mut self.tables, key, self.free).number, 0);
@@ -87,11 +88,13 @@ impl Bench {
     }
 
     fn on(&mut self, key: u64) {
-        black_box(on(black_box(&mut self.tables), key, self.free));
+        let answer = on(black_box(&mut self.tables), key, self.free);
+        assert_eq!(answer.number, 0, "the key is put on");
     }
 
     fn off(&mut self, key: u64) {
-        black_box(off(black_box(&mut self.tables), key));
+        let answer = off(black_box(&mut self.tables), key);
+        assert_eq!(answer.number, 0, "the key is taken off");
     }
 
     fn insert(&mut self, key: u64) {
@@ -146,7 +149,8 @@ impl Bench {
     /// One round, of which a first check is not timed.
     fn round(&mut self, number: usize) -> Round {
         let mut round = Round::default();
-        if number % SAME_TABLES == 0 {
+        let since_restored = number % SAME_TABLES;
+        if since_restored == 0 {
             self.restore();
             self.check();
         }
@@ -198,9 +202,9 @@ fn add(sums: &mut [f64; 2], times: [f64; 2]) {
         .for_each(|(sum, time)| *sum += time);
 }
 
-/// Measures on and off on a herd of so many records for so long.
-pub fn changes(records: usize, how_long: Duration) -> [Beside; 2] {
-    let mut bench = Bench::new(records);
+/// Measures on and off on a herd for so long.
+pub fn changes(herd: Herd, how_long: Duration) -> [Beside; 2] {
+    let mut bench = Bench::new(herd);
     let rounds = quiet_rounds(how_long, |number| bench.round(number));
     let of = |value: &dyn Fn(&Round) -> f64| median(rounds.iter().map(value).collect());
     [0, 1].map(|which: usize| Beside {
