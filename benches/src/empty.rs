@@ -1,4 +1,4 @@
-//! The measure of format: tables of a herd's size, made empty.
+//! The measures of empty tables of a herd's size: format, and their check.
 
 use crate::herd::{Size, WIDTH};
 use crate::library::{check, format};
@@ -14,12 +14,15 @@ pub struct Formats {
     pub format: Median,
     /// Format over memset, a ratio.
     pub over_memset: Median,
+    /// Check of the tables that format leaves.
+    pub check: Median,
 }
 
 /// The times of one round.
 struct Round {
     memset: f64,
     format: f64,
+    check: f64,
 }
 
 /// Tables with what a format of them is given.
@@ -57,6 +60,10 @@ impl Bench {
         black_box(format(black_box(&mut self.tables), self.arguments));
     }
 
+    fn check(&self) {
+        black_box(check(black_box(&self.tables)));
+    }
+
     fn clear(&mut self) {
         let Tables { index, keys, used } = black_box(&mut self.tables);
         index.fill(0);
@@ -64,7 +71,8 @@ impl Bench {
         used.fill(0);
     }
 
-    /// One round. Every second begins with the zeros.
+    /// One round. Every second begins with the zeros; the check comes last, of
+    /// tables that are formatted again.
     fn round(&mut self, number: usize) -> Round {
         let [mut memset, mut format] = [0.0; 2];
         for turn in [number, number + 1] {
@@ -74,18 +82,24 @@ impl Bench {
                 format = time(0, self.calls, |_| self.format());
             }
         }
-        Round { memset, format }
+        self.format();
+        Round {
+            memset,
+            format,
+            check: time(0, self.calls, |_| self.check()),
+        }
     }
 }
 
-/// Measures format on tables of this size for so long.
+/// Measures format and check on tables of this size for so long.
 pub fn formats(size: &Size, how_long: Duration) -> Formats {
     let mut bench = Bench::new(size);
-    let rounds = quiet_rounds(how_long, |number| bench.round(number));
+    let rounds = quiet_rounds(how_long, |number| Some(bench.round(number)));
     let of = |value: &dyn Fn(&Round) -> f64| median(rounds.iter().map(value).collect());
     Formats {
         memset: of(&|round| round.memset),
         format: of(&|round| round.format),
         over_memset: of(&|round| round.format / round.memset),
+        check: of(&|round| round.check),
     }
 }

@@ -13,22 +13,32 @@ mod rounds;
 
 use herd::Tags;
 use report::Report;
+use std::ops::RangeInclusive;
 use std::time::Duration;
 
 const RECORDS: [usize; 4] = [100, 1_000, 4_096, 60_000];
 
-/// E, as in the day book.
-const ENTRIES: u8 = 60;
+/// Seconds, if none are given.
+const SECONDS: u64 = 3;
+
+/// E, if none is given: that of the day book.
+const ENTRIES: u64 = 60;
+
+/// The argument, or else what is usual.
+fn number(argument: Option<String>, usual: u64, allowed: RangeInclusive<u64>) -> u64 {
+    let number = argument.map_or(Ok(usual), |given| given.parse());
+    let number = number.expect("a number");
+    assert!(allowed.contains(&number), "a number in {allowed:?}");
+    number
+}
 
 fn main() {
     let mut arguments = std::env::args().skip(1);
-    let seconds = arguments.next();
-    let seconds = seconds.map_or(3, |given| given.parse().expect("a number of seconds"));
-    let entries = arguments.next();
-    let entries = entries.map_or(ENTRIES, |given| given.parse().expect("E, 2 to 255"));
-    report::print_method(entries.into());
+    let seconds = number(arguments.next(), SECONDS, 1..=3_600);
+    let entries = number(arguments.next(), ENTRIES, 2..=255) as usize;
+    report::print_method(entries);
     for tags in [Tags::Scattered, Tags::Lots] {
         let each = Duration::from_secs(seconds);
-        Report::new(tags, entries.into(), &RECORDS, each).print();
+        Report::new(tags, entries, &RECORDS, each).print();
     }
 }

@@ -213,7 +213,7 @@ impl Bench {
 /// Measures a herd for so long.
 pub fn measure(herd: Herd, how_long: Duration) -> Measures {
     let bench = Bench::new(herd);
-    let rounds = quiet_rounds(how_long, |number| bench.round(number));
+    let rounds = quiet_rounds(how_long, |number| Some(bench.round(number)));
     let of = |value: &dyn Fn(&Round) -> f64| median(rounds.iter().map(value).collect());
     let read = |what: Read| {
         let which = what as usize;

@@ -17,9 +17,10 @@ of large numbers: where the interval is wider than half its value, no ratio is s
 row, with caches and branch prediction to themselves; behind a check, they find them as a find or a list does. A list
 goes from a held key to the largest, with room for 32 records; the range takes as many. On and off have rounds of their
 own, on tables with one free record: a key is put on and taken off again, each call timed alone, and less a check of
-the same tables. Checks and what is compared with them come in random order. Inserts and removes run 16 in a row.
-Format has rounds of its own, for a sixth of the time, on tables of the same size, in turn with zeros over the same
-bytes; it is the whole call, which has no check.";
+the same tables. Checks and what is compared with them come in random order. Inserts and removes run 16 in a row. A
+round in which an on finds no page (7) is left out. Format has rounds of its own, for a sixth of the time, on tables of
+the same size, in turn with zeros over the same bytes; it is the whole call, which has no check. The check of the
+tables that it leaves, as many bytes with one entry, is measured there too.";
 
 /// Prints what was done, with pages of E entries.
 pub fn print_method(entries: usize) {
@@ -164,5 +165,8 @@ fn print_format(herds: &[Formats]) {
     row("memset of these bytes, us", herds, |m| micros(m.memset));
     row("format / memset", herds, |m| {
         format!("{:.2}", m.over_memset.value)
+    });
+    row("check of these tables, empty, us", herds, |m| {
+        micros(m.check)
     });
 }

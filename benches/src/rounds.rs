@@ -75,14 +75,17 @@ pub fn drawn(random: &mut Random, keys: &[u64]) -> Vec<u64> {
 }
 
 /// Rounds for so long, each given its number, and of these the quarter that took
-/// least, when the machine was quiet.
-pub fn quiet_rounds<R>(how_long: Duration, mut round: impl FnMut(usize) -> R) -> Vec<R> {
+/// least, when the machine was quiet. A round that gives nothing is left out.
+pub fn quiet_rounds<R>(how_long: Duration, mut round: impl FnMut(usize) -> Option<R>) -> Vec<R> {
     let start = Instant::now();
     let mut rounds = Vec::new();
+    let mut left_out = 0;
     while start.elapsed() < how_long {
         let began = Instant::now();
-        let times = round(rounds.len());
-        rounds.push((began.elapsed(), times));
+        match round(rounds.len() + left_out) {
+            Some(times) => rounds.push((began.elapsed(), times)),
+            None => left_out += 1,
+        }
     }
     rounds.sort_unstable_by_key(|&(whole, _)| whole);
     rounds.truncate(rounds.len().div_ceil(4));
