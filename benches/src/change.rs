@@ -1,8 +1,8 @@
 //! The measures of one herd that is changed: keys are put on and taken off again.
 
-use crate::herd::{tables, tags};
+use crate::herd::Herd;
 use crate::library::{check, off, on};
-use crate::rounds::{median, quiet_rounds, time, together, Beside, LOOKED_FOR};
+use crate::rounds::{median, quiet_rounds, time, together, Beside, LOOKED_FOR, TESTED};
 use model::random::Random;
 use model::table::Tables;
 use std::collections::BTreeMap;
@@ -31,6 +31,9 @@ struct Bench {
     free: u32,
     /// How many pairs of on and off are timed in a round.
     pairs: usize,
+    /// Whether an on of this round was declined: pages that were cut stay so when
+    /// the key is taken off, and in the end there may be none left.
+    declined: bool,
 }
 
 /// The times of one round; of on and insert, and of off and remove.
@@ -49,10 +52,11 @@ fn once(call: impl FnOnce()) -> f64 {
 }
 
 impl Bench {
-    fn new(records: usize) -> Bench {
-        let mut held = tags(&mut Random::new(records as u64), records + LOOKED_FOR);
+    fn new(herd: Herd) -> Bench {
+        let records = herd.records;
+        let mut held = herd.tags(&mut Random::new(records as u64), records + LOOKED_FOR);
         let keys = held.split_off(records);
-        let tables = tables(&held, 1);
+        let tables = herd.tables(&held, 1);
         let mut bench = Bench {
             copy: tables.clone(),
             tables,
@@ -60,6 +64,7 @@ impl Bench {
             keys,
             free: records as u32,
             pairs: 1,
+            declined: false,
         };
         bench.test();
         bench.pairs = together(time(0, 20, |_| bench.check()));
@@ -68,7 +73,7 @@ impl Bench {
 
     /// The calls do what they are measured for.
     fn test(&mut self) {
-        for number in 0..500 {
+        for number in 0..TESTED {
             assert!(check(&self.tables), "the tables are sound");
             let key = self.keys[number];
             assert_eq!(on(&mut self.tables, key, self.free).number, 0);
@@ -87,7 +92,8 @@ impl Bench {
     }
 
     fn on(&mut self, key: u64) {
-        black_box(on(black_box(&mut self.tables), key, self.free));
+        let answer = on(black_box(&mut self.tables), key, self.free);
+        self.declined |= answer.number != 0;
     }
 
     fn off(&mut self, key: u64) {
@@ -102,11 +108,11 @@ impl Bench {
         black_box(black_box(&mut self.map).remove(&key));
     }
 
-    /// Pages that were cut stay so when the key is taken off.
     fn restore(&mut self) {
         self.tables.index.copy_from_slice(&self.copy.index);
         self.tables.keys.copy_from_slice(&self.copy.keys);
         self.tables.used.copy_from_slice(&self.copy.used);
+        self.declined = false;
     }
 
     /// A key put on and taken off with a check of the tables between; a check of
@@ -143,10 +149,11 @@ impl Bench {
         add(&mut round.behind, [inserted - without, removed - without]);
     }
 
-    /// One round, of which a first check is not timed.
-    fn round(&mut self, number: usize) -> Round {
+    /// One round, of which a first check is not timed; none if an on was declined.
+    fn round(&mut self, number: usize) -> Option<Round> {
         let mut round = Round::default();
-        if number % SAME_TABLES == 0 {
+        let since_restored = number % SAME_TABLES;
+        if since_restored == 0 || self.declined {
             self.restore();
             self.check();
         }
@@ -161,12 +168,13 @@ impl Bench {
             add(&mut round.map, [inserted, removed]);
         }
         let each = |sums: [f64; 2], times: usize| sums.map(|sum| sum / times as f64);
-        Round {
+        let round = Round {
             call: each(round.call, self.pairs),
             above: each(round.above, self.pairs),
             map: each(round.map, ROWS),
             behind: each(round.behind, self.pairs),
-        }
+        };
+        (!self.declined).then_some(round)
     }
 }
 
@@ -198,9 +206,9 @@ fn add(sums: &mut [f64; 2], times: [f64; 2]) {
         .for_each(|(sum, time)| *sum += time);
 }
 
-/// Measures on and off on a herd of so many records for so long.
-pub fn changes(records: usize, how_long: Duration) -> [Beside; 2] {
-    let mut bench = Bench::new(records);
+/// Measures on and off on a herd for so long.
+pub fn changes(herd: Herd, how_long: Duration) -> [Beside; 2] {
+    let mut bench = Bench::new(herd);
     let rounds = quiet_rounds(how_long, |number| bench.round(number));
     let of = |value: &dyn Fn(&Round) -> f64| median(rounds.iter().map(value).collect());
     [0, 1].map(|which: usize| Beside {

@@ -16,6 +16,17 @@ pub struct Answer {
 }
 
 extern "C" {
+    fn tag_index_format(
+        index: *mut u8,
+        index_bytes: usize,
+        keys: *mut u64,
+        keys_length: usize,
+        used: *mut u8,
+        used_length: usize,
+        w: u64,
+        e: u64,
+        p: u64,
+    ) -> Answer;
     fn tag_index_on(
         index: *mut u8,
         index_bytes: usize,
@@ -44,6 +55,18 @@ extern "C" {
         used_length: usize,
         key: u64,
     ) -> Answer;
+    fn tag_index_list(
+        index: *const u8,
+        index_bytes: usize,
+        keys: *const u64,
+        keys_length: usize,
+        used: *const u8,
+        used_length: usize,
+        a: u64,
+        b: u64,
+        out: *mut u32,
+        out_length: usize,
+    ) -> Answer;
     fn tag_index_check(
         index: *const u8,
         index_bytes: usize,
@@ -68,6 +91,45 @@ pub fn find(tables: &Tables, key: u64) -> Answer {
             used.as_ptr(),
             used.len(),
             key,
+        )
+    }
+}
+
+/// List.
+pub fn list(tables: &Tables, a: u64, b: u64, out: &mut [u32]) -> Answer {
+    let Tables { index, keys, used } = tables;
+    // SAFETY: as for find; the last slice does not overlap the others.
+    unsafe {
+        tag_index_list(
+            index.as_ptr(),
+            index.len(),
+            keys.as_ptr(),
+            keys.len(),
+            used.as_ptr(),
+            used.len(),
+            a,
+            b,
+            out.as_mut_ptr(),
+            out.len(),
+        )
+    }
+}
+
+/// Format, with W, E and P.
+pub fn format(tables: &mut Tables, [w, e, p]: [u64; 3]) -> Answer {
+    let Tables { index, keys, used } = tables;
+    // SAFETY: as for on.
+    unsafe {
+        tag_index_format(
+            index.as_mut_ptr(),
+            index.len(),
+            keys.as_mut_ptr(),
+            keys.len(),
+            used.as_mut_ptr(),
+            used.len(),
+            w,
+            e,
+            p,
         )
     }
 }

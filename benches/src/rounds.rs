@@ -7,6 +7,10 @@ use std::time::{Duration, Instant};
 /// machine to learn their ways by heart.
 pub const LOOKED_FOR: usize = 1 << 14;
 
+/// How many keys are looked for once before the rounds, to see that the calls do
+/// what they are measured for.
+pub const TESTED: usize = 200;
+
 /// How long the calls timed together take, about: long beside the clock's own
 /// time, short beside the machine's disturbances.
 const TOGETHER_NS: f64 = 20_000.0;
@@ -18,6 +22,13 @@ pub struct Median {
     pub value: f64,
     pub low: f64,
     pub high: f64,
+}
+
+impl Median {
+    /// Whether the interval is at most half as wide as the value.
+    pub fn is_known(self) -> bool {
+        self.high - self.low <= self.value / 2.0
+    }
 }
 
 /// A call of the library beside that of the map, in nanoseconds a call.
@@ -64,14 +75,17 @@ pub fn drawn(random: &mut Random, keys: &[u64]) -> Vec<u64> {
 }
 
 /// Rounds for so long, each given its number, and of these the quarter that took
-/// least, when the machine was quiet.
-pub fn quiet_rounds<R>(how_long: Duration, mut round: impl FnMut(usize) -> R) -> Vec<R> {
+/// least, when the machine was quiet. A round that gives nothing is left out.
+pub fn quiet_rounds<R>(how_long: Duration, mut round: impl FnMut(usize) -> Option<R>) -> Vec<R> {
     let start = Instant::now();
     let mut rounds = Vec::new();
+    let mut left_out = 0;
     while start.elapsed() < how_long {
         let began = Instant::now();
-        let times = round(rounds.len());
-        rounds.push((began.elapsed(), times));
+        match round(rounds.len() + left_out) {
+            Some(times) => rounds.push((began.elapsed(), times)),
+            None => left_out += 1,
+        }
     }
     rounds.sort_unstable_by_key(|&(whole, _)| whole);
     rounds.truncate(rounds.len().div_ceil(4));

@@ -3,8 +3,8 @@
 //! Seeded: every figure is the same in every run.
 
 use model::index::Index;
+use model::random::tags::{lot, lots, tag};
 use model::random::Random;
-use model::tag_code::{pack, Fields};
 use std::collections::BTreeSet;
 
 /// Register length of a table that only its pages bound.
@@ -12,48 +12,6 @@ const MOST_RECORDS: usize = 65_534;
 
 /// Tables of E and P that all take about as many bytes as E 60, P 100.
 const SAME_BYTES: [(usize, usize); 4] = [(20, 294), (60, 100), (120, 50), (255, 24)];
-
-/// The tag of a country and a national number; flag 1, other fields 0.
-fn tag(country: u64, national_number: u64) -> u64 {
-    let fields = Fields {
-        animal_flag: 1,
-        country,
-        national_number,
-        ..Fields::default()
-    };
-    let (number, code) = pack(fields);
-    assert_eq!(number, 0, "a tag of the table is refused");
-    code
-}
-
-/// A lot: the tags of 5 to 60 animals of one holding, in random order. The
-/// holding's mark has six digits and the animal's own number five. Seven of
-/// ten numbers follow the one before; the others leave 1 to 9 out.
-fn lot(random: &mut Random) -> Vec<u64> {
-    let mark = random.below(1_000_000) as u64;
-    let mut own = random.below(99_000) as u64;
-    let mut tags = Vec::new();
-    for _ in 0..random.between(5, 60) {
-        tags.push(tag(826, mark * 100_000 + own));
-        own += if random.percent(70) {
-            1
-        } else {
-            random.between(2, 10) as u64
-        };
-    }
-    random.shuffle(&mut tags);
-    tags
-}
-
-/// Lots one after the other, at least `count` tags, none twice.
-fn lots(random: &mut Random, count: usize) -> Vec<u64> {
-    let mut seen = BTreeSet::new();
-    let mut tags = Vec::new();
-    while tags.len() < count {
-        tags.extend(lot(random).into_iter().filter(|&key| seen.insert(key)));
-    }
-    tags
-}
 
 /// A kind of herd: what it is called, and its first keys in the order in which
 /// they come.

@@ -1,5 +1,5 @@
-//! Seeded random material for comparisons: keys, histories, day books, sound
-//! tables that no history makes, and damaged tables.
+//! Seeded random material for comparisons and measures: keys, tags, histories,
+//! day books, sound tables that no history makes, and damaged tables.
 
 pub mod damage;
 pub mod day_books;
@@ -7,6 +7,7 @@ pub mod histories;
 pub mod keys;
 pub mod places;
 pub mod sound_tables;
+pub mod tags;
 
 /// A generator of random numbers (splitmix64). The same seed gives the same
 /// numbers everywhere.
