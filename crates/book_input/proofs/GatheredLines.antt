@@ -1,56 +1,28 @@
--- However an input is parted into chunks, the lines gathered are the lines of the whole input, each cut to its first 81 bytes. Assumes nothing.
+-- The lines that are met in chunks are the lines of the whole input, each cut to its first 81 bytes. Assumes nothing.
 use mathlib.Core.Path.{_≡_, refl, sym, ap, _∙_}
 use mathlib.Core.Bool.{Bool, true, false, cond}
-use mathlib.Core.List.{List, [], _∷_, _++_, map, flatten, append-assoc, append-nil}
-use Prim.Native.Nat.{ℕ, zero, suc, _+_, _≤_, _<_}
+use mathlib.Core.List.{List, [], _∷_, _++_, map, append-assoc, append-nil}
+use Prim.Native.Nat.{ℕ, zero, suc, _≤_}
 use native.Mathlib.Omega.{arith}
 use lib.Dec.{eqb}
-use lib.ListN.{length, take, drop, drop-of-length-le}
-use lib.Seq.{length-take-le, take-all, take-take, take-append-seam, drop-drop, drop-length}
+use lib.ListN.{length, take, drop, length-take}
+use lib.Seq.{take-all, take-take, take-append-seam, drop-drop}
 use Rattle.book_input.specs.declared.Taken.{Taken}
-use Rattle.book_input.specs.Lines.{upToNewline, hasNewline, behindNewline, begunBefore, linesOf, cut}
-use Rattle.book_input.specs.Gathering.{Takes, Calls, over, last, next, whole, part}
-use Rattle.book_input.proofs.TakenPlaces.{taken-room, taken-lent}
+use Rattle.book_input.specs.Lines.{upToNewline, hasNewline, behindNewline, begunBefore, linesOf, cut, linesMet, leftOpen}
+use Rattle.book_input.specs.Gathering.{Takes, Passes}
+use Rattle.book_input.proofs.TakenPlaces.{cut-short}
 
 no-newline-there : {A : Type 0} → false ≡ true → A
 no-newline-there h = let z : _≡_ {A = ℕ} 1 0 = ap (λ t. cond t 0 1) h in absurd (omega arith)
 
--- ---- the lines of an input, by its first newline
+-- ---- lines begun, and cut
 
 begun-first : (l x : List ℕ) (lines : List (List ℕ)) → begunBefore l (x ∷ lines) ≡ (l ++ x) ∷ lines
 unfolding begunBefore
 begun-first [] x lines = refl
 begun-first (b ∷ l) x lines = refl
 
--- A first line that has its newline.
-lines-whole : (c s : List ℕ) → hasNewline c ≡ true → linesOf (c ++ s) ≡ upToNewline c ∷ linesOf (drop (behindNewline c) c ++ s)
-unfolding hasNewline linesOf upToNewline behindNewline
-lines-whole [] s h = no-newline-there h
-lines-whole (b ∷ c) s h = go (eqb b 10) refl (lines-whole c s) where
-  go : (t : Bool) → eqb b 10 ≡ t → (hasNewline c ≡ true → linesOf (c ++ s) ≡ upToNewline c ∷ linesOf (drop (behindNewline c) c ++ s))
-      → linesOf ((b ∷ c) ++ s) ≡ upToNewline (b ∷ c) ∷ linesOf (drop (behindNewline (b ∷ c)) (b ∷ c) ++ s)
-  go true e further = rw e
-  go false e further = rw (e, further (rw e at h), begun-first (b ∷ []))
-
--- The bytes of a line that has not met its newline:
-part-bytes : (c : List ℕ) → hasNewline c ≡ false → upToNewline c ≡ c
-unfolding hasNewline upToNewline
-part-bytes [] h = refl
-part-bytes (b ∷ c) h = go (eqb b 10) refl (part-bytes c) where
-  go : (t : Bool) → eqb b 10 ≡ t → (hasNewline c ≡ false → upToNewline c ≡ c) → upToNewline (b ∷ c) ≡ b ∷ c
-  go true e further = no-newline-there (sym (rw e at h))
-  go false e further = rw (e, further (rw e at h))
-
--- all are taken,
-part-place : (c : List ℕ) → hasNewline c ≡ false → behindNewline c ≡ length c
-unfolding hasNewline behindNewline
-part-place [] h = refl
-part-place (b ∷ c) h = go (eqb b 10) refl (part-place c) where
-  go : (t : Bool) → eqb b 10 ≡ t → (hasNewline c ≡ false → behindNewline c ≡ length c) → behindNewline (b ∷ c) ≡ length (b ∷ c)
-  go true e further = no-newline-there (sym (rw e at h))
-  go false e further = rw (e, further (rw e at h))
-
-begun-none : (lines : List (List ℕ)) → lines ≡ begunBefore [] lines
+begun-none : (lines : List (List ℕ)) → begunBefore [] lines ≡ lines
 unfolding begunBefore
 begun-none lines = refl
 
@@ -61,22 +33,6 @@ begun-twice [] y lines = refl
 begun-twice (a ∷ x) [] lines = ap (λ l. begunBefore (a ∷ l) lines) (sym (append-nil x))
 begun-twice (a ∷ x) (b ∷ y) [] = refl
 begun-twice (a ∷ x) (b ∷ y) (l ∷ lines) = ap (λ z. (a ∷ z) ∷ lines) (sym (append-assoc x (b ∷ y) l))
-
--- and the line goes on with what follows.
-lines-part : (c s : List ℕ) → hasNewline c ≡ false → linesOf (c ++ s) ≡ begunBefore c (linesOf s)
-unfolding hasNewline linesOf
-lines-part [] s h = begun-none (linesOf s)
-lines-part (b ∷ c) s h = go (eqb b 10) refl (lines-part c s) where
-  go : (t : Bool) → eqb b 10 ≡ t → (hasNewline c ≡ false → linesOf (c ++ s) ≡ begunBefore c (linesOf s)) → linesOf ((b ∷ c) ++ s) ≡ begunBefore (b ∷ c) (linesOf s)
-  go true e further = no-newline-there (sym (rw e at h))
-  go false e further = rw (e, further (rw e at h)) (begun-twice (b ∷ []) c (linesOf s))
-
--- ---- lines begun, and cut
-
-begun-last : (l : List ℕ) → 0 < length l → begunBefore l [] ≡ l ∷ []
-unfolding begunBefore
-begun-last [] h = absurd (omega arith)
-begun-last (b ∷ l) h = refl
 
 -- A front that is cut already.
 take-cut : (n : ℕ) (x y : List ℕ) → take n (take n x ++ y) ≡ take n (x ++ y)
@@ -90,49 +46,115 @@ begun-cut [] lines = refl
 begun-cut (b ∷ l) [] = ap (λ x. x ∷ []) (take-take 81 81 (b ∷ l) (omega arith))
 begun-cut (b ∷ l) (x ∷ lines) = ap (λ y. y ∷ map cut lines) (take-cut 81 (b ∷ l) x)
 
--- ---- the calls
+begun-short : (l : List ℕ) → length l ≤ 81 → begunBefore l [] ≡ map cut (begunBefore l [])
+unfolding begunBefore
+begun-short [] h = refl
+begun-short (b ∷ l) h = ap (λ x. x ∷ []) (sym (take-all 81 (b ∷ l) h))
 
--- The line stands at the front of the lent bytes.
-held-line : {chunk : List ℕ} {from : ℕ} {held : List ℕ} {n : ℕ} {after : List ℕ} {r : Taken} → Takes chunk from held n after r
-    → take (r .length) after ≡ cut (take n held ++ upToNewline (drop from chunk))
-held-line t = rw (t .bytes, t .many) (take-append-seam _ _)
+-- ---- the lines met, and those of the input
 
--- What is left of the chunk.
-left-over : {chunk : List ℕ} {from : ℕ} {held : List ℕ} {n : ℕ} {after : List ℕ} {r : Taken} → Takes chunk from held n after r
-    → drop (r .at) chunk ≡ drop (behindNewline (drop from chunk)) (drop from chunk)
-left-over t = rw (t .place, drop-drop)
+-- The lines met and the line left open are the lines of the bytes behind a line begun, each cut.
+met-begun : (begun s : List ℕ) → length begun ≤ 81 → linesMet begun s ++ begunBefore (leftOpen begun s) [] ≡ map cut (begunBefore begun (linesOf s))
+unfolding linesMet leftOpen linesOf
+met-begun begun [] h = begun-short begun h
+met-begun begun (b ∷ s) h = go (eqb b 10) refl (met-begun [] s (omega arith)) (met-begun (cut (begun ++ b ∷ [])) s (cut-short (begun ++ b ∷ []))) where
+  go : (t : Bool) → eqb b 10 ≡ t
+      → linesMet [] s ++ begunBefore (leftOpen [] s) [] ≡ map cut (begunBefore [] (linesOf s))
+      → linesMet (cut (begun ++ b ∷ [])) s ++ begunBefore (leftOpen (cut (begun ++ b ∷ [])) s) [] ≡ map cut (begunBefore (cut (begun ++ b ∷ [])) (linesOf s))
+      → linesMet begun (b ∷ s) ++ begunBefore (leftOpen begun (b ∷ s)) [] ≡ map cut (begunBefore begun (linesOf (b ∷ s)))
+  go true e ended other = rw (e, begun-first, append-nil, take-all 81 begun h) (ap (λ ls. begun ∷ ls) (ended ∙ ap (map cut) (begun-none (linesOf s))))
+  go false e ended other = rw (e, begun-twice, ← begun-cut (begun ++ b ∷ [])) other
 
--- A call that takes a line, and one that takes a part of it.
-after-whole : {chunk : List ℕ} {from : ℕ} {held : List ℕ} {n : ℕ} {after : List ℕ} {r : Taken} (s : List ℕ) (lines : List (List ℕ)) → Takes chunk from held n after r
-    → r .whole ≡ true → lines ≡ map cut (begunBefore [] (linesOf (drop (r .at) chunk ++ s)))
-    → take (r .length) after ∷ lines ≡ map cut (begunBefore (take n held) (linesOf (drop from chunk ++ s)))
-after-whole {chunk} {from} {held} {n} s lines takes met further =
-    rw (held-line takes, lines-whole (drop from chunk) s (sym (takes .ended) ∙ met), begun-first, ← left-over takes)
-    (ap (λ ls. cut (take n held ++ upToNewline (drop from chunk)) ∷ ls) (further ∙ sym (ap (map cut) (begun-none _))))
+-- All lines of an input.
+pub met-lines : (s : List ℕ) → linesMet [] s ++ begunBefore (leftOpen [] s) [] ≡ map cut (linesOf s)
+met-lines s = met-begun [] s (omega arith) ∙ ap (map cut) (begun-none (linesOf s))
 
-after-part : {chunk : List ℕ} {from : ℕ} {held : List ℕ} {n : ℕ} {after : List ℕ} {r : Taken} (s : List ℕ) (lines : List (List ℕ)) → Takes chunk from held n after r
-    → r .whole ≡ false → lines ≡ map cut (begunBefore (take (r .length) after) (linesOf (drop (r .at) chunk ++ s)))
-    → lines ≡ map cut (begunBefore (take n held) (linesOf (drop from chunk ++ s)))
-after-part {chunk} {from} {held} {n} {after} {r} s lines takes unmet further =
-    let none : hasNewline (drop from chunk) ≡ false = sym (takes .ended) ∙ unmet in
-    let line : take (r .length) after ≡ cut (take n held ++ drop from chunk) = held-line takes ∙ rw (part-bytes (drop from chunk) none) in
-    let rest : drop (r .at) chunk ≡ [] = left-over takes ∙ rw (part-place (drop from chunk) none) (drop-length (drop from chunk)) in
-    rw (lines-part (drop from chunk) s none, begun-twice, ← begun-cut (take n held ++ drop from chunk), ← line)
-    (further ∙ rw rest)
+-- ---- from one place to another
 
--- From any place on: a line begun, and the lines of what is still to be taken.
-gathered-from : {chunk : List ℕ} {from : ℕ} {held : List ℕ} {n : ℕ} {chunks lines : List (List ℕ)} → Calls chunk from held n chunks lines → n ≤ 81
-    → length held ≡ 81 → lines ≡ map cut (begunBefore (take n held) (linesOf (drop from chunk ++ flatten chunks)))
-unfolding flatten linesOf
-gathered-from {chunk} (over end) h l = rw (drop-of-length-le chunk end, ← begun-none)
-gathered-from {chunk} {held = held} {n = n} (last end some) h l =
-    let many : length (take n held) ≡ n = length-take-le n held (omega arith) in
-    rw (drop-of-length-le chunk end, begun-last (take n held) (omega arith), take-all 81 (take n held) (omega arith))
-gathered-from {chunk} (next end calls) h l = rw (drop-of-length-le chunk end) (gathered-from calls h l)
-gathered-from (whole inside takes met calls) h l = after-whole _ _ takes met (gathered-from calls (omega arith) (taken-lent takes l))
-gathered-from (part inside takes unmet calls) h l = after-part _ _ takes unmet (gathered-from calls (taken-room takes) (taken-lent takes l))
+met-behind : (begun s x : List ℕ) → linesMet begun (s ++ x) ≡ linesMet begun s ++ linesMet (leftOpen begun s) x
+unfolding linesMet leftOpen
+met-behind begun [] x = refl
+met-behind begun (b ∷ s) x = go (eqb b 10) (met-behind [] s x) (met-behind (cut (begun ++ b ∷ [])) s x) where
+  go : (t : Bool) → linesMet [] (s ++ x) ≡ linesMet [] s ++ linesMet (leftOpen [] s) x
+      → linesMet (cut (begun ++ b ∷ [])) (s ++ x) ≡ linesMet (cut (begun ++ b ∷ [])) s ++ linesMet (leftOpen (cut (begun ++ b ∷ [])) s) x
+      → cond t (begun ∷ linesMet [] (s ++ x)) (linesMet (cut (begun ++ b ∷ [])) (s ++ x))
+      ≡ cond t (begun ∷ linesMet [] s) (linesMet (cut (begun ++ b ∷ [])) s) ++ linesMet (leftOpen (cond t [] (cut (begun ++ b ∷ []))) s) x
+  go true ended other = ap (λ ls. begun ∷ ls) ended
+  go false ended other = other
 
--- However an input is parted into chunks, the calls gather the lines of the whole input, each cut to its first 81 bytes.
-pub gathered-lines : {held : List ℕ} {chunks lines : List (List ℕ)} → length held ≡ 81 → Calls [] 0 held 0 chunks lines
-    → lines ≡ map cut (linesOf (flatten chunks))
-gathered-lines l calls = gathered-from calls (omega arith) l ∙ sym (ap (map cut) (begun-none _))
+open-behind : (begun s x : List ℕ) → leftOpen begun (s ++ x) ≡ leftOpen (leftOpen begun s) x
+unfolding leftOpen
+open-behind begun [] x = refl
+open-behind begun (b ∷ s) x = open-behind (cond (eqb b 10) [] (cut (begun ++ b ∷ []))) s x
+
+pub passes-none : (begun rest : List ℕ) → Passes begun rest [] begun rest
+passes-none begun rest = record { met = refl; opens = refl }
+
+pub passes-both : {begun rest begun₁ rest₁ begun₂ rest₂ : List ℕ} {done more : List (List ℕ)} → Passes begun rest done begun₁ rest₁
+    → Passes begun₁ rest₁ more begun₂ rest₂ → Passes begun rest (done ++ more) begun₂ rest₂
+passes-both {begun₂ = begun₂} {rest₂ = rest₂} {done = done} {more = more} a b = record {
+  met = a .met ∙ ap (λ ls. done ++ ls) (b .met) ∙ sym (append-assoc done more (linesMet begun₂ rest₂));
+  opens = a .opens ∙ b .opens;
+}
+
+-- The same with bytes that come later.
+pub passes-behind : {begun rest begun₁ rest₁ : List ℕ} {done : List (List ℕ)} (x : List ℕ) → Passes begun rest done begun₁ rest₁
+    → Passes begun (rest ++ x) done begun₁ (rest₁ ++ x)
+passes-behind {begun} {rest} {begun₁} {rest₁} {done} x a = record {
+  met = rw (met-behind begun rest x, met-behind begun₁ rest₁ x, a .met, a .opens, append-assoc);
+  opens = rw (open-behind begun rest x, open-behind begun₁ rest₁ x, a .opens);
+}
+
+-- So all lines, the last one without newline too, are those met on the way and all lines from there on.
+pub passes-all : {begun rest begun₁ rest₁ : List ℕ} {done : List (List ℕ)} → Passes begun rest done begun₁ rest₁
+    → linesMet begun rest ++ begunBefore (leftOpen begun rest) [] ≡ done ++ (linesMet begun₁ rest₁ ++ begunBefore (leftOpen begun₁ rest₁) [])
+passes-all {done = done} a = rw (a .met, a .opens, append-assoc)
+
+-- ---- one call
+
+-- A first line that has its newline.
+passes-line : (begun s : List ℕ) → length begun ≤ 81 → hasNewline s ≡ true → Passes begun s (cut (begun ++ upToNewline s) ∷ []) [] (drop (behindNewline s) s)
+unfolding linesMet leftOpen hasNewline upToNewline behindNewline
+passes-line begun [] h met = no-newline-there met
+passes-line begun (b ∷ s) h met = go (eqb b 10) refl (passes-line (cut (begun ++ b ∷ [])) s (cut-short (begun ++ b ∷ []))) where
+  go : (t : Bool) → eqb b 10 ≡ t
+      → (hasNewline s ≡ true → Passes (cut (begun ++ b ∷ [])) s (cut (cut (begun ++ b ∷ []) ++ upToNewline s) ∷ []) [] (drop (behindNewline s) s))
+      → Passes begun (b ∷ s) (cut (begun ++ upToNewline (b ∷ s)) ∷ []) [] (drop (behindNewline (b ∷ s)) (b ∷ s))
+  go true e further = record { met = rw (e, append-nil, take-all 81 begun h); opens = rw e }
+  go false e further =
+      let rest = further (rw e at met) in
+      let line : cut (cut (begun ++ b ∷ []) ++ upToNewline s) ≡ cut (begun ++ b ∷ upToNewline s) = take-cut 81 (begun ++ b ∷ []) (upToNewline s) ∙ rw append-assoc in
+      record { met = rw e (rest .met ∙ rw line); opens = rw e (rest .opens) }
+
+-- A line that has not met its newline.
+passes-part : (begun s : List ℕ) → length begun ≤ 81 → hasNewline s ≡ false → Passes begun s [] (cut (begun ++ upToNewline s)) (drop (behindNewline s) s)
+unfolding linesMet leftOpen hasNewline upToNewline behindNewline
+passes-part begun [] h unmet = record { met = refl; opens = rw (append-nil, take-all 81 begun h) }
+passes-part begun (b ∷ s) h unmet = go (eqb b 10) refl (passes-part (cut (begun ++ b ∷ [])) s (cut-short (begun ++ b ∷ []))) where
+  go : (t : Bool) → eqb b 10 ≡ t
+      → (hasNewline s ≡ false → Passes (cut (begun ++ b ∷ [])) s [] (cut (cut (begun ++ b ∷ []) ++ upToNewline s)) (drop (behindNewline s) s))
+      → Passes begun (b ∷ s) [] (cut (begun ++ upToNewline (b ∷ s))) (drop (behindNewline (b ∷ s)) (b ∷ s))
+  go true e further = no-newline-there (sym (rw e at unmet))
+  go false e further =
+      let rest = further (rw e at unmet) in
+      let line : cut (cut (begun ++ b ∷ []) ++ upToNewline s) ≡ cut (begun ++ b ∷ upToNewline s) = take-cut 81 (begun ++ b ∷ []) (upToNewline s) ∙ rw append-assoc in
+      record { met = rw e (rest .met ∙ rw line); opens = rw e (rest .opens ∙ rw line) }
+
+module _ {chunk : List ℕ} {from : ℕ} {held : List ℕ} {n : ℕ} {after : List ℕ} {r : Taken} (room : n ≤ 81) (takes : Takes chunk from held n after r) where
+  -- The line stands at the front of the lent bytes.
+  held-line : take (r .length) after ≡ cut (take n held ++ upToNewline (drop from chunk))
+  held-line = rw (takes .bytes, takes .many) (take-append-seam _ _)
+
+  -- What is left of the chunk.
+  left-over : drop (r .at) chunk ≡ drop (behindNewline (drop from chunk)) (drop from chunk)
+  left-over = rw (takes .place, drop-drop)
+
+  front-short : length (take n held) ≤ 81
+  front-short = rw length-take (omega arith)
+
+  -- A call takes a line, or a part of it.
+  pub takes-line : r .whole ≡ true → Passes (take n held) (drop from chunk) (take (r .length) after ∷ []) [] (drop (r .at) chunk)
+  takes-line met = rw (held-line, left-over) (passes-line (take n held) (drop from chunk) front-short (sym (takes .ended) ∙ met))
+
+  pub takes-part : r .whole ≡ false → Passes (take n held) (drop from chunk) [] (take (r .length) after) (drop (r .at) chunk)
+  takes-part unmet = rw (held-line, left-over) (passes-part (take n held) (drop from chunk) front-short (sym (takes .ended) ∙ unmet))

@@ -1,11 +1,10 @@
--- Taking lines from chunks: one call, and all calls on an input in chunks. Assumes nothing.
+-- Taking lines from chunks. Assumes nothing.
 use mathlib.Core.Path.{_≡_}
-use mathlib.Core.Bool.{true, false}
-use mathlib.Core.List.{List, [], _∷_, _++_}
+use mathlib.Core.List.{List, _++_}
 use Prim.Native.Nat.{ℕ, _+_, _≤_, _<_}
 use lib.ListN.{length, take, drop, set}
 use Rattle.book_input.specs.declared.Taken.{Taken}
-use Rattle.book_input.specs.Lines.{upToNewline, hasNewline, behindNewline, cut}
+use Rattle.book_input.specs.Lines.{upToNewline, hasNewline, behindNewline, cut, linesMet, leftOpen}
 
 -- The place lies in the chunk, 81 bytes are lent, and at most these are held.
 pub record TakePre (chunk : List ℕ) (from : ℕ) (held : List ℕ) (length₀ : ℕ) : Type 0 where
@@ -31,16 +30,7 @@ pub record Takes (chunk : List ℕ) (from : ℕ) (held : List ℕ) (length₀ : 
   pub place : r .at ≡ from + behindNewline (drop from chunk)
   pub ended : r .whole ≡ hasNewline (drop from chunk)
 
--- The calls on an input that is read in chunks, from a place of a chunk on, with n bytes held and more chunks to come, and the lines gathered by them. At
--- the end of the input a line without newline counts if it is not empty; at the end of a chunk the next is read; else a call takes a line, or a part of it.
-pub data Calls : List ℕ → ℕ → List ℕ → ℕ → List (List ℕ) → List (List ℕ) → Type 0 where
-  over : {chunk : List ℕ} {from : ℕ} {held : List ℕ} → length chunk ≤ from → Calls chunk from held 0 [] []
-  last : {chunk : List ℕ} {from : ℕ} {held : List ℕ} {n : ℕ} → length chunk ≤ from → 0 < n → Calls chunk from held n [] (take n held ∷ [])
-  next : {chunk : List ℕ} {from : ℕ} {held : List ℕ} {n : ℕ} {later : List ℕ} {chunks lines : List (List ℕ)}
-      → length chunk ≤ from → Calls later 0 held n chunks lines → Calls chunk from held n (later ∷ chunks) lines
-  whole : {chunk : List ℕ} {from : ℕ} {held : List ℕ} {n : ℕ} {after : List ℕ} {r : Taken} {chunks lines : List (List ℕ)}
-      → from < length chunk → Takes chunk from held n after r → r .whole ≡ true → Calls chunk (r .at) after 0 chunks lines
-      → Calls chunk from held n chunks (take (r .length) after ∷ lines)
-  part : {chunk : List ℕ} {from : ℕ} {held : List ℕ} {n : ℕ} {after : List ℕ} {r : Taken} {chunks lines : List (List ℕ)}
-      → from < length chunk → Takes chunk from held n after r → r .whole ≡ false → Calls chunk (r .at) after (r .length) chunks lines
-      → Calls chunk from held n chunks lines
+-- From a line begun and bytes to be read to those left later: the lines `done` are met on the way, and behind it the same as before.
+pub record Passes (begun rest : List ℕ) (done : List (List ℕ)) (begun₁ rest₁ : List ℕ) : Type 0 where
+  pub met : linesMet begun rest ≡ done ++ linesMet begun₁ rest₁
+  pub opens : leftOpen begun rest ≡ leftOpen begun₁ rest₁

@@ -1,9 +1,9 @@
 -- The lines of an input (01, "Day-book program"). Assumes nothing.
 use mathlib.Core.Bool.{Bool, true, false, cond}
-use mathlib.Core.List.{List, [], _∷_, _++_, map}
-use Prim.Native.Nat.{ℕ, zero, suc}
+use mathlib.Core.List.{List, [], _∷_, _++_}
+use Prim.Native.Nat.{ℕ, suc}
 use lib.Dec.{eqb}
-use lib.ListN.{length, take}
+use lib.ListN.{take}
 
 -- The bytes before the first newline; all of them, if there is none.
 unfoldable pub upToNewline : List ℕ → List ℕ
@@ -34,3 +34,13 @@ linesOf (b ∷ s) = cond (eqb b 10) ([] ∷ linesOf s) (begunBefore (b ∷ []) (
 -- A line cut to its first 81 bytes: "A line over 80 bytes, newline not counted, is bad", whatever follows.
 abbrev pub cut : List ℕ → List ℕ
 cut line = take 81 line
+
+-- The whole lines that are met by reading bytes behind a line begun, each cut,
+unfoldable pub linesMet : List ℕ → List ℕ → List (List ℕ)
+linesMet begun [] = []
+linesMet begun (b ∷ s) = cond (eqb b 10) (begun ∷ linesMet [] s) (linesMet (cut (begun ++ b ∷ [])) s)
+
+-- and the line that is left without its newline.
+unfoldable pub leftOpen : List ℕ → List ℕ → List ℕ
+leftOpen begun [] = begun
+leftOpen begun (b ∷ s) = leftOpen (cond (eqb b 10) [] (cut (begun ++ b ∷ []))) s

@@ -5,10 +5,10 @@ use mathlib.Core.List.{List, [], _∷_}
 use Prim.Native.Nat.{ℕ, _+_, _≤_, _<_}
 use native.Mathlib.Omega.{arith}
 use native.Mathlib.Numerals.{add-one}
-use lib.Dec.{eqb}
-use lib.ListN.{length, take, drop}
-use borrow.Author.Tests.{le-leb, lt-leb}
-use Rattle.book_lines.specs.declared.Said.{Said}
+use lib.Dec.{eqb, ltb}
+use lib.ListN.{length, take, drop, length-take}
+use lib.Seq.{take-all}
+use borrow.Author.Tests.{le-leb, lt-leb, ltb-true, ltb-false}
 use Rattle.book_lines.specs.declared.Said.the-variants as said
 use Rattle.book_lines.specs.Fields.{tab, inFront, cutAtTabs, fieldLength, FieldEnd}
 use Rattle.book_lines.specs.Lines.{
@@ -98,6 +98,15 @@ says-long line h = rw (lt-leb (length line) 80 h)
 pub short-says : (line : List ℕ) → length line ≤ 80 → meaning line ≡ fieldsSay (cutAtTabs line)
 unfolding meaning
 short-says line h = rw (le-leb (length line) 80 h)
+
+-- So its first 81 bytes say what the whole line says.
+pub says-cut : (line : List ℕ) → meaning (take 81 line) ≡ meaning line
+says-cut line = go (ltb (length line) 82) refl where
+  go : (t : Bool) → ltb (length line) 82 ≡ t → meaning (take 81 line) ≡ meaning line
+  go true e = ap meaning (take-all 81 line (omega (arith, ltb-true (length line) 82 e)))
+  go false e =
+      let long : 82 ≤ length line = ltb-false (length line) 82 e in
+      says-long (take 81 line) (rw length-take (omega arith)) ∙ sym (says-long line (omega arith))
 
 -- A line of one field, of two, of three, of more.
 module _ (line : List ℕ) (short : length line ≤ 80) (end : ℕ) (e : FieldEnd line end) where

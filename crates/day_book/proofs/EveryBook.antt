@@ -1,25 +1,26 @@
 -- Every day book: what is printed is a function of its lines and the ordered map (01, "Day-book program" and "Histories"). Assumes nothing.
 use mathlib.Core.Path.{_≡_, refl, sym, ap, ap₂, subst, _∙_}
-use mathlib.Core.Bool.{Bool, true}
+use mathlib.Core.Bool.{true}
 use mathlib.Core.List.{List, [], _∷_, _++_}
-use Prim.Native.Nat.{ℕ, suc, _≤_}
+use Prim.Native.Nat.{ℕ, suc}
 use contract.Lifetimes.{Lfts}
 use denote.Ref.{RefT}
 use lib.ListN.{length, take}
 use Rattle.table_calls.specs.declared.answer.Answer.{Answer}
 use Rattle.tag_index.specs.Format.{formatFits, FormatDoes}
-use Rattle.tag_index.specs.Histories.{Tables, on, off, find, list, Reply, OrderedMap, Sizes, sizesOf, Feed, nothingFed, feedOf, emptyMap, formats, mapReply}
+use Rattle.tag_index.specs.Histories.{Tables, Reply, OrderedMap, Sizes, sizesOf, Feed, nothingFed, emptyMap, formats}
 use Rattle.tag_index.specs.Claims.{Agrees}
 use Rattle.tag_index.proofs.EmptySound.{format-sound, format-lengths, format-width, format-empties}
 use Rattle.tag_index.proofs.Runs.{Lent}
-use Rattle.tag_index.proofs.MapSteps.{Holds, Step, on-does-step, off-does-step, find-does-step, list-does-step}
+use Rattle.tag_index.proofs.MapSteps.{Holds, on-does-step, off-does-step, find-does-step, list-does-step}
 use Rattle.tag_index.proofs.Histories.{agrees}
 use Rattle.tag_index.proofs.format.format.Reads as format-reads
 use Rattle.book_lines.specs.declared.Said.{Said}
 use Rattle.book_lines.specs.declared.Said.the-variants.{On, Off, Find, List as Lists, Bad, OutOfRange}
 use Rattle.book_lines.specs.Lines.{meaning}
-use Rattle.day_book.specs.Books.{Shown, numberAlone, findShown, slice, listShown, answerIn, sliceIn, mapShown, mapSaid, feedOfSaid, shownLine, printed, mapBehindLines}
-use Rattle.day_book.specs.LineAnswers.{tables, SaidShown, LineDoes}
+use Rattle.day_book.specs.Books.{Shown, numberAlone, findShown, listShown, answerIn, sliceIn, mapShown, mapSaid, feedOfSaid, shownLine, printed, mapBehindLines}
+use Rattle.day_book.specs.LineAnswers.{SaidShown, LineDoes, Told}
+use Rattle.day_book.specs.LineAnswers as told
 use Rattle.day_book.proofs.answer_line.Reads as answer-line-reads
 
 -- ---- one line
@@ -72,23 +73,27 @@ pub data Book : Tables → ℕ → List (List ℕ) → List Feed → List ℕ �
   next : {t u v : Tables} {n : ℕ} {line bytes out : List ℕ} {lines : List (List ℕ)} {feeds : List Feed} → Answers t line n u bytes → Book u (suc n) lines feeds out v
       → Book t n (line ∷ lines) (feedOfSaid t (meaning line) ∷ feeds) (bytes ++ out) v
 
+-- The lines of a book are told to the library.
+book-told : {t v : Tables} {n : ℕ} {lines : List (List ℕ)} {feeds : List Feed} {out : List ℕ} → Book t n lines feeds out v → Told t n lines feeds out v
+book-told end = told.end
+book-told {t} {v} {n} (next {line = line} {out = out} {lines = lines} {feeds = feeds} s book) =
+    let does = answers-does s .shows in
+    subst (λ (bytes : List ℕ). Told t n (line ∷ lines) (feedOfSaid t (meaning line) ∷ feeds) (bytes ++ out) v) (sym (s .printed-is ∙ does .written .front))
+    (told.next {line = line} (does .shown) (does .does) (book-told book))
+
 pub record Follows (z : Sizes) (m : OrderedMap) (n : ℕ) (lines : List (List ℕ)) (feeds : List Feed) (out : List ℕ) (v : Tables) : Type 0 where
   -- All that is printed is the map's.
   pub output : out ≡ printed z m n lines feeds
   -- The tables agree with the map behind the lines.
   pub holds : Holds z (mapBehindLines z m lines feeds) v
 
-pub follows : {z : Sizes} {m : OrderedMap} {t v : Tables} {n : ℕ} {lines : List (List ℕ)} {feeds : List Feed} {out : List ℕ} → Holds z m t → Book t n lines feeds out v
+pub follows : {z : Sizes} {m : OrderedMap} {t v : Tables} {n : ℕ} {lines : List (List ℕ)} {feeds : List Feed} {out : List ℕ} → Holds z m t → Told t n lines feeds out v
     → Follows z m n lines feeds out v
-follows h end = record { output = refl; holds = h }
-follows {n = n} h (next {line = line} s book) =
-    let does = answers-does s .shows in
-    let step = said-step h (meaning line) (does .does) in
-    let rest = follows (step .holds) book in
-    record {
-      output = ap₂ (λ (a b : List ℕ). a ++ b) (s .printed-is ∙ does .written .front ∙ ap (shownLine n) (step .shown)) (rest .output);
-      holds = rest .holds;
-    }
+follows h told.end = record { output = refl; holds = h }
+follows {n = n} h (told.next {line = line} s said further) =
+    let step = said-step h (meaning line) said in
+    let rest = follows (step .holds) further in
+    record { output = ap₂ (λ (a b : List ℕ). a ++ b) (ap (shownLine n) (step .shown)) (rest .output); holds = rest .holds }
 
 -- ---- a whole book
 
@@ -128,9 +133,14 @@ opened-holds {t} o =
       herd = format-empties does fits;
     }
 
--- Every book, from its first line on: the output is the map's, and the tables agree with the map behind it.
+-- Lines told to the library from the first on: the output is the map's, and the tables agree with the map behind it.
+pub every-told : {t v : Tables} {lines : List (List ℕ)} {feeds : List Feed} {out : List ℕ} → Opened t → Told t 1 lines feeds out v
+    → (out ≡ printed bookSizes (emptyMap 64) 1 lines feeds) × Agrees (mapBehindLines bookSizes (emptyMap 64) lines feeds) v
+every-told o lines =
+    let f = follows (opened-holds o) lines in
+    (f .output, agrees (f .holds))
+
+-- Every book.
 pub every-book : {t v : Tables} {lines : List (List ℕ)} {feeds : List Feed} {out : List ℕ} → Opened t → Book t 1 lines feeds out v
     → (out ≡ printed bookSizes (emptyMap 64) 1 lines feeds) × Agrees (mapBehindLines bookSizes (emptyMap 64) lines feeds) v
-every-book o book =
-    let f = follows (opened-holds o) book in
-    (f .output, agrees (f .holds))
+every-book o book = every-told o (book-told book)

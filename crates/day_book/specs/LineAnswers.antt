@@ -1,16 +1,16 @@
 -- What the library does with one line of a day book (01, "Day-book program"). Assumes nothing.
 use mathlib.Core.Path.{_≡_}
-use mathlib.Core.List.{List}
-use Prim.Native.Nat.{ℕ, _≤_}
+use mathlib.Core.List.{List, [], _∷_, _++_}
+use Prim.Native.Nat.{ℕ, suc, _≤_}
 use lib.ListN.{length, take, drop}
 use Rattle.table_calls.specs.declared.answer.Answer.{Answer}
 use Rattle.tag_index.specs.Changing.{OnDoes, OffDoes}
 use Rattle.tag_index.specs.Reading.{FindDoes, ListDoes}
-use Rattle.tag_index.specs.Histories.{Tables}
+use Rattle.tag_index.specs.Histories.{Tables, Feed}
 use Rattle.book_lines.specs.declared.Said.{Said}
 use Rattle.book_lines.specs.declared.Said.the-variants.{On, Off, Find, List as Lists, Bad, OutOfRange}
 use Rattle.book_lines.specs.Lines.{meaning}
-use Rattle.day_book.specs.Books.{Shown, numberAlone, findShown, slice, listShown, shownLine}
+use Rattle.day_book.specs.Books.{Shown, numberAlone, findShown, slice, listShown, feedOfSaid, shownLine}
 
 abbrev pub tables : List ℕ → List ℕ → List ℕ → Tables
 tables index keys used = record { index = index; keys = keys; used = used }
@@ -82,3 +82,9 @@ NoneDoes refusal = Shows (λ s. s ≡ numberAlone refusal)
 -- A line is answered.
 pub record LineDoes (t : Tables) (line : List ℕ) (n : ℕ) (out : List ℕ) (u : Tables) (out₁ : List ℕ) (r : ℕ) : Type 0 where
   pub shows : Shows (SaidShown (meaning line) t u) n out out₁ r
+
+-- Lines are told to the library from line n on, each on the tables as the last one left them: what the map is fed of each, and all that is printed.
+pub data Told : Tables → ℕ → List (List ℕ) → List Feed → List ℕ → Tables → Type 0 where
+  end : {t : Tables} {n : ℕ} → Told t n [] [] [] t
+  next : {t u v : Tables} {n : ℕ} {line out : List ℕ} {lines : List (List ℕ)} {feeds : List Feed} (s : Shown) → SaidShown (meaning line) t u s
+      → Told u (suc n) lines feeds out v → Told t n (line ∷ lines) (feedOfSaid t (meaning line) ∷ feeds) (shownLine n s ++ out) v

@@ -1,183 +1,139 @@
 // The day book: each line of standard input is answered on standard output.
 ghost use mathlib.Core.Path.{_≡_};
-ghost use Prim.Native.Nat.{_+_, _≤_};
-ghost use lib.ListN.{length};
-ghost use Rattle.daybook.specs.Progress.{Ready, WithRoom, Answered};
 ghost use Rattle.day_book.specs.LineAnswers.{tables};
-use book_input::Taken;
+ghost use Rattle.daybook.specs.Readings.{Between, PiecesReady, PiecesDo, EndReady, EndDoes, ReadDoes};
+use book_chunks::Progress;
 use libc::STDIN_FILENO;
 use libc::STDOUT_FILENO;
 
-// How far the day book has come: the lines answered, the bytes held of the line that is being read, the bytes of answers that are not yet written, and
-// whether it goes on.
-struct Progress {
+// How far the day book has come between two reads: the lines answered, the bytes held of the line that is being read, and whether it goes on.
+struct Reading {
     pub lines: u64,
     pub held: usize,
-    pub filled: usize,
     pub going: bool,
 }
 
-// The answers that are not yet written are written; a failed write ends the day book.
-fn write_answers(held: &[u8], out: &[u8], progress: Progress) -> Progress
-    requires { ⌜ Ready (now held) (now out) progress ⌝ }
-    ensures { λ r. ⌜ WithRoom (now (held .entry)) (now (out .entry)) r ⌝ }
-{
-    let filled = progress.filled;
-    let written = io::write_all(STDOUT_FILENO, &out[..filled]);
-    Progress {
-        lines: progress.lines,
-        held: progress.held,
-        filled: 0,
-        going: written,
-    }
-}
+// No run comes to more lines; so their numbers never run out.
+const MAX_LINES: u64 = 9223372036854775808;
 
-// Room for one answer more: the buffer is written out when it is nearly full.
-fn make_room(held: &[u8], out: &[u8], progress: Progress) -> Progress
-    requires { ⌜ Ready (now held) (now out) progress ⌝ }
-    ensures { λ r. ⌜ WithRoom (now (held .entry)) (now (out .entry)) r ⌝ }
-{
-    if out.len() - progress.filled < 256 {
-        return write_answers(held, out, progress);
-    }
-    progress
-}
-
-// The line that is held is answered, behind the answers that are not yet written.
-fn answer_held(
-    index: &mut [u8],
-    keys: &mut [u64],
-    used: &mut [u8],
-    held: &[u8],
-    out: &mut [u8],
-    progress: Progress,
-) -> Progress
-    requires { ⌜ WithRoom (now held) (now out) progress ⌝ }
-    ensures { λ r. ⌜ Answered (tables (now (index .entry)) (now (keys .entry)) (now (used .entry))) (now (held .entry)) (now (out .entry)) progress (tables (now (index .exit)) (now (keys .exit)) (now (used .exit))) (now (out .exit)) r ⌝ }
-{
-    let filled = progress.filled;
-    let length = progress.held;
-    let lines = progress.lines;
-    if lines == u64::MAX {
-        return Progress {
-            lines,
-            held: 0,
-            filled,
-            going: false,
-        };
-    }
-    let more = day_book::answer_line(
-        index,
-        keys,
-        used,
-        &held[..length],
-        lines + 1,
-        &mut out[filled..],
-    );
-    Progress {
-        lines: lines + 1,
-        held: 0,
-        filled: filled + more,
-        going: progress.going,
-    }
-}
-
-// A line whose newline was met is answered; the beginning of another is kept until more is read.
-fn answer_taken(
-    index: &mut [u8],
-    keys: &mut [u64],
-    used: &mut [u8],
-    held: &[u8],
-    out: &mut [u8],
-    progress: Progress,
-    whole: bool,
-) -> Progress
-    requires { ⌜ Ready (now held) (now out) progress ⌝ }
-    ensures { λ r. ⌜ Ready (now (held .entry)) (now (out .exit)) r ⌝ }
-{
-    if !whole {
-        return progress;
-    }
-    let roomy = make_room(held, out, progress);
-    answer_held(index, keys, used, held, out, roomy)
-}
-
-// All that a chunk has: line after line.
-fn answer_chunk(
+// All lines of a chunk, in pieces whose answers the buffer has room for, each written before the next. A failed write ends the day book.
+fn answer_pieces(
     index: &mut [u8],
     keys: &mut [u64],
     used: &mut [u8],
     chunk: &[u8],
     held: &mut [u8],
     out: &mut [u8],
-    progress: Progress,
-) -> Progress
-    requires { ⌜ Ready (now held) (now out) progress ⌝ }
-    ensures { λ r. ⌜ Ready (now (held .exit)) (now (out .exit)) r ⌝ }
+    reading: Reading,
+) -> Reading
+    requires { ⌜ PiecesReady (now chunk) (now held) (now out) reading ⌝ }
+    ensures { λ r. ⌜ PiecesDo (tables (now (index .entry)) (now (keys .entry)) (now (used .entry))) (now (chunk .entry)) (now (held .entry)) reading (tables (now (index .exit)) (now (keys .exit)) (now (used .exit))) (now (held .exit)) (now (out .exit)) r ⌝ }
 {
-    let mut p = progress;
-    let mut at = 0;
-    while at < chunk.len() {
-        if !p.going {
-            return p;
+    let mut p = Progress {
+        lines: reading.lines,
+        held: reading.held,
+        at: 0,
+        filled: 0,
+    };
+    while p.at < chunk.len() {
+        p = book_chunks::answer_chunk(index, keys, used, chunk, held, out, p);
+        let filled = p.filled;
+        if !io::write_all(STDOUT_FILENO, &out[..filled]) {
+            return Reading {
+                lines: p.lines,
+                held: p.held,
+                going: false,
+            };
         }
-        let taken = book_input::take_line(chunk, at, held, p.held);
-        at = taken.at;
-        p.held = taken.length;
-        p = answer_taken(index, keys, used, held, out, p, taken.whole);
+        p.filled = 0;
     }
-    p
+    Reading {
+        lines: p.lines,
+        held: p.held,
+        going: true,
+    }
 }
 
-// At the end of the input a line without newline counts.
-fn answer_last(
+// At the end of the input a line without newline is answered, and the day book ends.
+fn answer_end(
     index: &mut [u8],
     keys: &mut [u64],
     used: &mut [u8],
     held: &[u8],
     out: &mut [u8],
-    progress: Progress,
-) -> Progress
-    requires { ⌜ Ready (now held) (now out) progress ⌝ }
-    ensures { λ r. ⌜ Ready (now (held .entry)) (now (out .exit)) r ⌝ }
+    reading: Reading,
+) -> Reading
+    requires { ⌜ EndReady (now held) (now out) reading ⌝ }
+    ensures { λ r. ⌜ EndDoes (tables (now (index .entry)) (now (keys .entry)) (now (used .entry))) (now (held .entry)) reading (tables (now (index .exit)) (now (keys .exit)) (now (used .exit))) (now (out .exit)) r ⌝ }
 {
-    let answered = answer_taken(index, keys, used, held, out, progress, progress.held > 0);
-    let mut p = write_answers(held, out, answered);
-    p.going = false;
-    p
+    let begun = Progress {
+        lines: reading.lines,
+        held: reading.held,
+        at: 0,
+        filled: 0,
+    };
+    let p = book_chunks::answer_last(index, keys, used, held, out, begun);
+    let filled = p.filled;
+    io::write_all(STDOUT_FILENO, &out[..filled]);
+    Reading {
+        lines: p.lines,
+        held: p.held,
+        going: false,
+    }
 }
 
-// Reads once, answers what came, and writes the answers. The end of the input ends the day book, and so does a failed read.
+// What a read gave is answered. If it gave nothing the input is at its end.
+fn answer_read(
+    index: &mut [u8],
+    keys: &mut [u64],
+    used: &mut [u8],
+    chunk: &[u8],
+    held: &mut [u8],
+    out: &mut [u8],
+    reading: Reading,
+) -> Reading
+    requires { ⌜ PiecesReady (now chunk) (now held) (now out) reading ⌝ }
+    ensures { λ r. ⌜ ReadDoes (tables (now (index .entry)) (now (keys .entry)) (now (used .entry))) (now (chunk .entry)) (now (held .entry)) reading (tables (now (index .exit)) (now (keys .exit)) (now (used .exit))) (now (held .exit)) (now (out .exit)) r ⌝ }
+{
+    if chunk.len() == 0 {
+        return answer_end(index, keys, used, held, out, reading);
+    }
+    answer_pieces(index, keys, used, chunk, held, out, reading)
+}
+
+// The day book ends where it is.
+fn ended(reading: Reading) -> Reading
+    ensures { λ r. ⌜ r .held ≡ reading .held ⌝ }
+{
+    Reading {
+        lines: reading.lines,
+        held: reading.held,
+        going: false,
+    }
+}
+
+// Reads once, and answers what came. A failed read ends the day book.
 fn answer_some(
     index: &mut [u8],
     keys: &mut [u64],
     used: &mut [u8],
     held: &mut [u8],
     out: &mut [u8],
-    progress: Progress,
-) -> Progress
-    requires { ⌜ Ready (now held) (now out) progress ⌝ }
-    ensures { λ r. ⌜ Ready (now (held .exit)) (now (out .exit)) r ⌝ }
+    reading: Reading,
+) -> Reading
+    requires { ⌜ Between (now held) (now out) reading ⌝ }
+    ensures { λ r. ⌜ Between (now (held .exit)) (now (out .exit)) r ⌝ }
 {
+    if reading.lines > MAX_LINES {
+        return ended(reading);
+    }
     let mut chunk = io::large_buffer();
     let got = libc::read(STDIN_FILENO, &mut chunk);
     if got < 0 {
-        return Progress {
-            lines: progress.lines,
-            held: progress.held,
-            filled: progress.filled,
-            going: false,
-        };
-    }
-    if got == 0 {
-        return answer_last(index, keys, used, held, out, progress);
+        return ended(reading);
     }
     let n = io::count(got, &chunk);
-    let p = answer_chunk(index, keys, used, &chunk[..n], held, out, progress);
-    if !p.going {
-        return p;
-    }
-    write_answers(held, out, p)
+    answer_read(index, keys, used, &chunk[..n], held, out, reading)
 }
 
 // All of the input, chunk after chunk. A proved loop has to end, and nothing says that the input does: so the turns are counted down from a number
@@ -188,21 +144,21 @@ fn answer_all(
     used: &mut [u8],
     held: &mut [u8],
     out: &mut [u8],
-    progress: Progress,
-) -> Progress
-    requires { ⌜ Ready (now held) (now out) progress ⌝ }
-    ensures { λ r. ⌜ Ready (now (held .exit)) (now (out .exit)) r ⌝ }
+    reading: Reading,
+) -> Reading
+    requires { ⌜ Between (now held) (now out) reading ⌝ }
+    ensures { λ r. ⌜ Between (now (held .exit)) (now (out .exit)) r ⌝ }
 {
-    let mut p = progress;
+    let mut r = reading;
     let mut turns = u64::MAX;
     while turns > 0 {
-        if !p.going {
-            return p;
+        if !r.going {
+            return r;
         }
-        p = answer_some(index, keys, used, held, out, p);
+        r = answer_some(index, keys, used, held, out, r);
         turns -= 1;
     }
-    p
+    r
 }
 
 fn main() {
@@ -212,10 +168,9 @@ fn main() {
     let mut held = [0u8; 81];
     let mut out = io::large_buffer();
     tag_index::format::format(&mut index, &mut keys, &mut used, 64, 60, 250);
-    let begun = Progress {
+    let begun = Reading {
         lines: 0,
         held: 0,
-        filled: 0,
         going: true,
     };
     answer_all(&mut index, &mut keys, &mut used, &mut held, &mut out, begun);

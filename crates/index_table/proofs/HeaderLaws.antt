@@ -3,13 +3,13 @@ use mathlib.Core.Path.{_≡_, refl, sym, ap, ap₂, _∙_}
 use mathlib.Core.List.{List, [], _∷_}
 use Prim.Native.Nat.{ℕ, suc, _+_, _*_, _≤_, _<_, _/_, _%_}
 use native.Mathlib.Omega.{arith}
-use lib.ListN.{length, getD, take, drop, replicate}
-use lib.Seq.{getD-take}
+use lib.ListN.{length, getD, take, drop, set, replicate}
+use lib.Seq.{getD-take, sets, set-getD}
 use Rattle.index_table.specs.Bytes.{bytesOf, over}
 use Rattle.index_table.specs.Layout.{Layout, layoutOf, pageSize, pageStart, pageBytes, store}
 use Rattle.index_table.specs.Header.{wordAt, widthOf, entriesOf, pagesOf, rootOf, heldOf, spareOf, headerBytes, withRoot, withHeld, HeaderFrom}
 use Rattle.index_table.proofs.ListLaws.{take-drop, read-over, part-behind, getD-over, getD-over-behind, getD-over-before}
-use Rattle.index_table.proofs.NumberLaws.{length-bytes, bytes-two}
+use Rattle.index_table.proofs.NumberLaws.{length-bytes, bytes-two, Bytes}
 use Rattle.index_table.proofs.PageBytes.{front-store}
 
 abbrev word : ℕ → ℕ → ℕ
@@ -31,6 +31,16 @@ module _ (b b′ : List ℕ) (front : take 16 b′ ≡ take 16 b) where
     held = ap₂ word (byte 6 (omega arith)) (byte 7 (omega arith));
     spare = take-drop 8 8 b′ ∙ ap (drop 8) front ∙ sym (take-drop 8 8 b);
   }
+
+  -- The root that is there, written again.
+  pub root-kept : Bytes b → withRoot b′ (rootOf b) ≡ b′
+  unfolding over
+  root-kept small =
+      let high : rootOf b / 256 ≡ getD b′ 4 0 = omega (arith, byte 4 (omega arith), small 4, small 5) in
+      let low : rootOf b % 256 ≡ getD b′ 5 0 = omega (arith, byte 5 (omega arith), small 4, small 5) in
+      ap (sets b′ 4) (bytes-two (rootOf b) (omega (arith, small 4, small 5)) ∙ ap₂ (λ (x y : ℕ). x ∷ y ∷ []) high low)
+      ∙ ap (λ (l : List ℕ). set l 5 (getD b′ 5 0)) (set-getD b′ 4 0)
+      ∙ set-getD b′ 5 0
 
 -- A page that is stored leaves the header.
 pub store-header : (e : ℕ) (b : List ℕ) (p : ℕ) (page : List ℕ) → HeaderFrom b (store (layoutOf e) b p page) (rootOf b) (heldOf b)

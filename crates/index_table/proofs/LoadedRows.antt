@@ -1,6 +1,6 @@
 -- Rows that are loaded from pages. Assumes nothing.
-use mathlib.Core.Path.{_≡_, sym, ap, ap₂, _∙_}
-use mathlib.Core.List.{List, [], _++_}
+use mathlib.Core.Path.{_≡_, refl, sym, ap, ap₂, _∙_}
+use mathlib.Core.List.{List, [], _∷_, _++_, zip, zipWith}
 use Prim.Native.Nat.{ℕ, suc, _+_, _-_, _<_}
 use native.Mathlib.Omega.{arith}
 use native.Mathlib.Numerals.{add-one}
@@ -10,7 +10,7 @@ use Rattle.page_tree.specs.Row.{Holds, rowOf, partOf}
 use Rattle.page_tree.specs.declared.Row.{Row}
 use Rattle.index_table.specs.Layout.{layoutOf, pageBytes, countOf, Ref}
 use Rattle.index_table.specs.Pages.{pagesAt}
-use Rattle.index_table.specs.Storing.{splicedAt}
+use Rattle.index_table.specs.Storing.{splicedAt, rowWith}
 use Rattle.index_table.proofs.PageRows.{length-refs}
 
 -- The count that is read is the number of entries.
@@ -39,3 +39,9 @@ module _ (refs : List Ref) (at n : ℕ) (parts new first more r : Row) (inside :
         (m .entries ∙ ap (λ (a : List Ref). a ++ rowOf parts) (f .entries ∙ ap (λ (a : List Ref). a ++ take at refs) (z .entries)))
         (rw (add-one at) (ap (λ (k : ℕ). slice (suc at) k refs) counted ∙ ap (drop (suc at)) (take-length refs)));
   }
+
+-- A row of given entries has them.
+pub row-with : (l : List Ref) → rowOf (rowWith l) ≡ l
+unfolding zip zipWith
+row-with [] = refl
+row-with (x ∷ l) = ap (λ (r : List Ref). x ∷ r) (row-with l)

@@ -2,13 +2,13 @@
 use mathlib.Core.Path.{_≡_, sym, ap, _∙_}
 use mathlib.Core.Logic.{_⊎_, inl, inr}
 use mathlib.Core.List.{List, [], _∷_, map}
-use Prim.Native.Nat.{ℕ, zero, suc, _+_, _<_}
+use Prim.Native.Nat.{ℕ, zero, suc, _+_, _≤_, _<_}
 use native.Mathlib.Omega.{arith}
 use lib.ListN.{length}
 use Rattle.page_tree.specs.Rows.{All, sum}
 use Rattle.page_tree.specs.Tree.{pageCount, pagesOf}
 use Rattle.index_table.specs.Layout.{Layout, Ref, pageSize, store}
-use Rattle.index_table.specs.Pages.{pagesAt, nodeAt, treeAt, rootRef, same, met, metAll, inUse, sumTo, usedPages}
+use Rattle.index_table.specs.Pages.{Pages, pagesAt, nodeAt, treeAt, rootRef, same, met, metAll, inUse, sumTo, usedPages}
 use Rattle.index_table.specs.Soundness.{SoundBelow, SoundPages}
 use Rattle.index_table.proofs.PageCounts.{same-cases, sum-to-ext, sum-to-add, sum-to-zero, sum-to-same}
 use Rattle.index_table.proofs.Frames.{other-refs}
@@ -51,3 +51,9 @@ pub used-store : (L : Layout) (P : ℕ) (b : List ℕ) (p : ℕ) (page : List �
     → usedPages P (pagesAt L (store L b p page)) + inUse (pagesAt L b p) ≡ usedPages P (pagesAt L b) + inUse (pagesAt L (store L b p page) p)
 used-store L P b p page sized h =
     sum-to-change P p (λ q. inUse (pagesAt L (store L b p page) q)) (λ q. inUse (pagesAt L b q)) h (λ q n. ap (λ (l : List Ref). inUse l) (other-refs L b p page sized q n))
+
+-- No more pages are in use than there are.
+pub used-few : (P : ℕ) (pages : Pages) → usedPages P pages ≤ P
+unfolding sumTo
+used-few zero pages = omega arith
+used-few (suc P) pages = omega (arith, used-few P pages)

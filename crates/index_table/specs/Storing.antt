@@ -1,12 +1,15 @@
 -- When a part of a row can be stored as a page, and a part of a page loaded into a row. Assumes nothing.
+use mathlib.Core.Path.{_≡_}
 use mathlib.Core.List.{List, _++_, map}
-use Prim.Native.Nat.{ℕ, suc, _+_, _-_, _≤_, _<_}
+use Prim.Native.Nat.{ℕ, suc, _+_, _*_, _-_, _≤_, _<_}
 use lib.ListN.{length, take, drop}
 use Rattle.page_tree.specs.Row.{rowOf, partOf}
 use Rattle.page_tree.specs.OnPages.{Replacement}
 use Rattle.page_tree.specs.declared.Row.{Row}
-use Rattle.index_table.specs.Layout.{Within, layoutOf, Fitting}
+use Rattle.index_table.specs.Bytes.{over}
+use Rattle.index_table.specs.Layout.{Within, layoutOf, pageBytes, levelOf, Ref, rowBytes, rowPage, Fitting, store}
 use Rattle.index_table.specs.Pages.{pagesAt, leafOf}
+use Rattle.index_table.specs.Soundness.{Cleared}
 
 pub record Storable (e : ℕ) (b : List ℕ) (p : ℕ) (row : Row) (from to : ℕ) : Type 0 where
   pub within : Within (layoutOf e) b p
@@ -31,6 +34,25 @@ pub record Spliceable (e : ℕ) (b : List ℕ) (p at : ℕ) (parts : Row) : Type
   pub few : length (pagesAt (layoutOf e) b p) ≤ e
   pub inside : at < length (pagesAt (layoutOf e) b p)
   pub room : parts .count ≤ 65
+
+-- A page whose unused entries are zero, with room for c entries in the place of one of its own.
+pub record Openable (e : ℕ) (b : List ℕ) (p at c : ℕ) : Type 0 where
+  pub within : Within (layoutOf e) b p
+  pub inside : at < length (pagesAt (layoutOf e) b p)
+  pub some : 1 ≤ c
+  pub room : length (pagesAt (layoutOf e) b p) + c ≤ suc e
+  pub cleared : Cleared (layoutOf e) (pageBytes (layoutOf e) b p)
+
+-- The page with room for them: once c entries are written there, it is the page with these in the place of entry `at`.
+pub record Opened (e : ℕ) (b : List ℕ) (p at c : ℕ) (b′ : List ℕ) (place : ℕ) : Type 0 where
+  pub long : length b′ ≡ length b
+  pub inside : place + 3 * c ≤ length b
+  pub filled : (row : List Ref) → length row ≡ c
+      → over b′ place (rowBytes 2 row) ≡ store (layoutOf e) b p (rowPage e (levelOf (pageBytes (layoutOf e) b p)) (splicedAt at row (pagesAt (layoutOf e) b p)))
+
+-- A row of given entries.
+abbrev pub rowWith : List Ref → Row
+rowWith l = record { depths = map (λ (x : Ref). x .0) l; pointers = map (λ (x : Ref). x .1) l; count = length l }
 
 -- The entries of a row in the place of the entry found, whichever it is.
 abbrev pub newLeaves : Row → Replacement

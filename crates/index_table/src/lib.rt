@@ -2,5 +2,6 @@
 pub mod close;
 pub mod header;
 pub mod layout;
+pub mod open;
 pub mod rows;
 pub mod write;

@@ -4,15 +4,15 @@ use mathlib.Core.Logic.{_≢_, _⊎_, inl, inr}
 use mathlib.Core.Bool.{Bool, true, false, not}
 use mathlib.Core.List.{_∷_}
 use Prim.Native.Nat.{ℕ, zero, suc, _+_, _-_, _*_, _/_, _%_, _^_, _≤_, _<_}
-use native.Mathlib.Nat.{div-eq-of-lt, le-div-iff-mul-le, eq-or-lt-of-le, le-of-suc-le-suc, lt-of-lt-of-le, lt-of-not-le, not-le-of-lt, mod-eq-of-lt, add-mul, one-mul, mul-assoc, mul-comm, pow-suc}
+use native.Mathlib.Nat.{div-self, mod-self, zero-mul, div-eq-of-lt, le-div-iff-mul-le, eq-or-lt-of-le, le-of-suc-le-suc, lt-of-lt-of-le, lt-of-not-le, not-le-of-lt, mod-eq-of-lt, add-mul, one-mul, mul-assoc, mul-comm, pow-suc}
 use native.Mathlib.Numerals.{add-one}
 use native.Mathlib.Omega.{arith}
-use lib.Bits.{bitOr, bitXor, or-lt, or-step, or-zero-r, xor-lt, xor-shr, xor-self, xor-add-and, and-le-l, and-le-r}
+use lib.Bits.{bitOr, bitAnd, bitXor, or-add-and, and-mask, and-mod, and-shr, and-zero-r, or-lt, or-step, or-zero-r, xor-lt, xor-shr, xor-self, xor-add-and, and-le-l, and-le-r}
 use lib.Count.{leadingZeros, leading-top}
 use lib.Dec.{leb, eqb}
-use lib.Pow.{pow-mono, pow-pos, shl-lt, shr-lt, shr-shr}
-use borrow.Author.Tests.{ne-eqb, leb-true, leb-false}
-use Rattle.leaf_list.specs.Keys.{Key, bits, firstDifference, setBitAt, firstBits}
+use lib.Pow.{pow-mono, pow-pos, shl-exact, shl-lt, shr-lt, shr-shr, split}
+use borrow.Author.Tests.{eq-eqb, ne-eqb, leb-true, leb-false}
+use Rattle.leaf_list.specs.Keys.{Key, bits, firstDifference, bitAt, setBitAt, firstBits}
 
 -- ---- shifts right
 
@@ -29,6 +29,25 @@ shr-more a b j i h e =
 -- something is left
 shr-pos : (x j : ℕ) → 2 ^ j ≤ x → 0 < x / 2 ^ j
 shr-pos x j h = le-div-iff-mul-le (pow-pos j) .1 (rw (one-mul (2 ^ j)) h)
+
+-- A one shifted up is a power of two.
+pub power : (n : ℕ) → n < 64 → 1 * 2 ^ n % 2 ^ 64 ≡ 2 ^ n
+power n h = shl-exact 1 n 64 (omega arith) (omega arith) ∙ one-mul (2 ^ n)
+
+-- ---- one bit
+
+-- What a number has of bit j, counted from the last as bit 0.
+and-bit : (x j : ℕ) → bitAnd x (2 ^ j) ≡ x / 2 ^ j % 2 * 2 ^ j
+and-bit x j = sym (split (bitAnd x (2 ^ j)) j) ∙ rw (and-shr x (2 ^ j) j, and-mod x (2 ^ j) j, div-self (pow-pos j), mod-self (2 ^ j), and-zero-r (x % 2 ^ j), and-mask (x / 2 ^ j) 1) (omega arith)
+
+-- Bit p is set exactly if a number has something of it.
+pub bit-by-and : (w p x b : ℕ) → b ≡ 2 ^ (w - p) → not (eqb (bitAnd x b) 0) ≡ bitAt w p x
+bit-by-and w p x b e = rw (e, and-bit x (w - p)) (go (x / 2 ^ (w - p) % 2) (2 ^ (w - p)) (pow-pos (w - p)) (omega arith))
+  where
+    go : (q m : ℕ) → 0 < m → q < 2 → not (eqb (q * m) 0) ≡ eqb q 1
+    go zero m h g = rw (zero-mul m)
+    go (suc zero) m h g = rw (one-mul m, ne-eqb m 0 (λ z. omega arith))
+    go (suc (suc q)) m h g = absurd (omega arith)
 
 -- ---- the first difference
 
@@ -128,3 +147,22 @@ set-by-shifts w d x k p l h =
     let low : byShifts (w - d) x < 2 ^ w = shifts-lt w d x p l h in
     let m : byShifts (w - d) x % 2 ^ 64 ≡ byShifts (w - d) x = mod-eq-of-lt (lt-of-lt-of-le low (pow-mono k)) in
     (m ∙ shifts-set x (w - d), rw m low)
+
+-- ---- the bits below one
+
+-- Numbers differ in their last j bits only exactly if their exclusive or is at most all of these bits.
+pub xor-mask : (a b j m : ℕ) → suc m ≡ 2 ^ j → leb (bitXor a b) m ≡ eqb (a / 2 ^ j) (b / 2 ^ j)
+xor-mask a b j m e = go (leb (bitXor a b) m) refl
+  where
+    go : (t : Bool) → leb (bitXor a b) m ≡ t → t ≡ eqb (a / 2 ^ j) (b / 2 ^ j)
+    go true h = sym (eq-eqb (a / 2 ^ j) (b / 2 ^ j) (xor-same a b j (omega (arith, leb-true (bitXor a b) m h))))
+    go false h = sym (ne-eqb (a / 2 ^ j) (b / 2 ^ j) (xor-other a b j (omega (arith, leb-false (bitXor a b) m h))))
+
+-- One more than a number with its last j bits set.
+pub or-mask : (x j m : ℕ) → suc m ≡ 2 ^ j → bitOr x m + 1 ≡ (x / 2 ^ j + 1) * 2 ^ j
+or-mask x j m e = rw (add-mul, one-mul) (omega (arith, or-add-and x m, low, split x j))
+  where
+    low : bitAnd x m ≡ x % 2 ^ j
+    low =
+        let s : m ≡ 2 ^ j - 1 = omega arith in
+        rw s (and-mask x j)

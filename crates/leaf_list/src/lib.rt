@@ -1,16 +1,24 @@
 ghost use mathlib.Core.Path.{_≡_};
 ghost use mathlib.Core.Logic.{_≢_};
-ghost use Prim.Native.Nat.{_≤_, _<_, _^_, max};
+ghost use Prim.Native.Nat.{_-_, _≤_, _<_, _^_, max};
 ghost use lib.Dec.{eqb, leb};
 ghost use Rattle.leaf_list.specs.Keys.{bits, firstDifference, bitAt, setBitAt, firstBits};
 ghost use Rattle.leaf_list.specs.Insertion.{leafDepth};
+
+// Bit p of a number of w bits.
+pub fn bit(w: u64, p: u64) -> u64
+    requires { ⌜ (w ≤ 64) × (0 < p) × (p ≤ w) ⌝ }
+    ensures { λ r. ⌜ r ≡ 2 ^ (w - p) ⌝ }
+{
+    1u64 << (w - p)
+}
 
 // Whether bit p of a key of w bits is set.
 pub fn bit_is_set(w: u64, key: u64, p: u64) -> bool
     requires { ⌜ (w ≤ 64) × (0 < p) × (p ≤ w) ⌝ }
     ensures { λ r. ⌜ r ≡ bitAt w p key ⌝ }
 {
-    (key >> (w - p)) % 2 == 1
+    key & bit(w, p) != 0
 }
 
 // The first bit where two keys of w bits differ.

@@ -1,13 +1,13 @@
 -- The places of a row, and what storing to them does to its entries. Assumes nothing.
-use mathlib.Core.Path.{_≡_, refl, sym, ap, ap₂, _∙_}
+use mathlib.Core.Path.{_≡_, refl, sym, ap, _∙_}
 use mathlib.Core.List.{List, [], _∷_, _++_, zip, zipWith, append-assoc, append-nil}
 use Prim.Native.Nat.{ℕ, zero, suc, _+_, _-_, _≤_, _<_}
 use native.Mathlib.Omega.{arith}
 use native.Mathlib.Numerals.{add-one}
 use lib.ListN.{length, getD, set, take, drop, length-set}
-use lib.Seq.{slice, take-suc, take-take, take-suc-set, take-set-lt, take-set-le, getD-take, drop-append-le, slice-empty, length-take-le}
+use lib.Seq.{slice, take-suc, take-take, take-suc-set, take-set-lt, getD-take, drop-append-le, slice-empty, length-take-le}
 use Rattle.page_tree.specs.declared.Row.{Row}
-use Rattle.page_tree.specs.Row.{Pair, places, rowOf, partOf, insertedAt}
+use Rattle.page_tree.specs.Row.{Pair, places, rowOf, partOf}
 
 -- The two arrays of a row have 319 elements each.
 abbrev pub Full : List ℕ → List ℕ → Type 0
@@ -67,82 +67,10 @@ part-of-row row from to h = ap (drop from) (sym (take-take to (row .count) (plac
 pub stored-in : (ds ps : List ℕ) (n i d p : ℕ) → i < n → take n (zip (set ds i d) (set ps i p)) ≡ set (take n (zip ds ps)) i (d, p)
 stored-in ds ps n i d p h = rw (zip-set ds ps i d p) (take-set-lt n (zip ds ps) i (d, p) h)
 
--- A store behind the first n is one entry more,
+-- A store behind the first n is one entry more.
 pub stored-behind : (ds ps : List ℕ) → Full ds ps → (n d p : ℕ) → n < 319 → take (n + 1) (zip (set ds n d) (set ps n p)) ≡ take n (zip ds ps) ++ (d, p) ∷ []
 stored-behind ds ps full n d p l =
     rw (zip-set ds ps n d p, add-one n) (take-suc-set (zip ds ps) n (d, p) (omega (arith, length-zip ds ps full)))
-
--- and keeps them.
-kept-before : (ds ps : List ℕ) (n d p : ℕ) → take n (zip (set ds n d) (set ps n p)) ≡ take n (zip ds ps)
-kept-before ds ps n d p = rw (zip-set ds ps n d p) (take-set-le n (zip ds ps) n (d, p) (omega arith))
-
--- Inserted before nothing, an element stands behind the others.
-inserted-behind : {A : Type 0} (n : ℕ) (x : A) (l : List A) → length l ≡ n → insertedAt n x l ≡ l ++ x ∷ []
-inserted-behind zero x [] h = refl
-inserted-behind zero x (y ∷ l) h = absurd (omega arith)
-inserted-behind (suc n) x [] h = absurd (omega arith)
-inserted-behind (suc n) x (y ∷ l) h = ap (λ r. y ∷ r) (inserted-behind n x l (omega arith))
-
--- An element that changes places with the one before it.
-swapped : {A : Type 0} (k : ℕ) (x none : A) (l : List A) → k < length l
-    → set (set (insertedAt (suc k) x l) (suc k) (getD (insertedAt (suc k) x l) k none)) k x ≡ insertedAt k x l
-swapped k x none [] h = absurd (omega arith)
-swapped zero x none (y ∷ l) h = refl
-swapped (suc k) x none (y ∷ l) h = ap (λ r. y ∷ r) (swapped k x none l (omega arith))
-
--- The first n + 1 places are the entries es, of which there are n, with x before entry k.
-pub record Swapped (x : Pair) (n k : ℕ) (es : List Pair) (ds ps : List ℕ) : Type 0 where
-  pub full : Full ds ps
-  pub before : k ≤ n
-  pub within : n < 319
-  pub length-is : length es ≡ n
-  pub entries : take (n + 1) (zip ds ps) ≡ insertedAt k x es
-
--- The entry is put behind the others.
-pub swapped-none : (ds ps : List ℕ) → Full ds ps → (n d p : ℕ) → n < 319
-    → Swapped (d, p) n n (take n (zip (set ds n d) (set ps n p))) (set ds n d) (set ps n p)
-swapped-none ds ps full n d p l =
-    let e : length (take n (zip ds ps)) ≡ n = length-take-le n (zip ds ps) (omega (arith, length-zip ds ps full)) in
-    record {
-      full = full-set ds ps n d p full;
-      before = omega arith;
-      within = l;
-      length-is = ap length (kept-before ds ps n d p) ∙ e;
-      entries =
-          stored-behind ds ps full n d p l ∙ sym (inserted-behind n (d, p) (take n (zip ds ps)) e)
-          ∙ ap (insertedAt n (d, p)) (sym (kept-before ds ps n d p));
-    }
-
--- It changes places with the entry before it.
-pub swapped-more : {ds ps : List ℕ} {n k d p : ℕ} {es : List Pair} → 0 < k → Swapped (d, p) n k es ds ps
-    → Swapped (d, p) n (k - 1) es (set (set ds k (getD ds (k - 1) 0)) (k - 1) d) (set (set ps k (getD ps (k - 1) 0)) (k - 1) p)
-swapped-more {ds} {ps} {n} {k} {d} {p} {es} l h =
-    let z = zip ds ps in
-    let j = k - 1 in
-    let dj = getD ds j 0 in
-    let pj = getD ps j 0 in
-    let a : k ≡ suc j = omega arith in
-    let b = h .before in
-    record {
-      full = full-set (set ds k dj) (set ps k pj) j d p (full-set ds ps k dj pj (h .full));
-      before = omega arith;
-      within = h .within;
-      length-is = h .length-is;
-      entries =
-          rw (zip-set (set ds k dj) (set ps k pj) j d p, zip-set ds ps k dj pj, ← place-at ds ps (h .full) j (omega (arith, h .within)))
-          (take-set-lt (n + 1) (set z k (getD z j (0, 0))) j (d, p) (omega arith)
-          ∙ ap (λ w. set w j (d, p)) (take-set-lt (n + 1) z k (getD z j (0, 0)) (omega arith))
-          ∙ ap (λ y. set (set (take (n + 1) z) k y) j (d, p)) (sym (getD-take (n + 1) z j (0, 0) (omega arith)))
-          ∙ ap (λ w. set (set w k (getD w j (0, 0))) j (d, p)) (h .entries)
-          ∙ ap (λ (i : ℕ). set (set (insertedAt i (d, p) es) i (getD (insertedAt i (d, p) es) j (0, 0))) j (d, p)) a
-          ∙ swapped j (d, p) (0, 0) es (omega (arith, h .length-is)));
-    }
-
--- It has come down to i.
-pub swapped-all : (ds ps : List ℕ) (n d p i k : ℕ) (ds′ ps′ : List ℕ) → i ≤ k → k ≤ i
-    → Swapped (d, p) n k (take n (zip (set ds n d) (set ps n p))) ds′ ps′ → take (n + 1) (zip ds′ ps′) ≡ insertedAt i (d, p) (take n (zip ds ps))
-swapped-all ds ps n d p i k ds′ ps′ a b h =
-    h .entries ∙ ap₂ (λ (j : ℕ) (es : List Pair). insertedAt j (d, p) es) (let e : k ≡ i = omega arith in e) (kept-before ds ps n d p)
 
 -- A part with one thing more.
 pub slice-more : {A : Type 0} (from i : ℕ) (z : List A) (none : A) → from ≤ i → i < length z → slice from (i + 1) z ≡ slice from i z ++ getD z i none ∷ []

@@ -2,7 +2,7 @@
 use mathlib.Core.Path.{_≡_}
 use mathlib.Core.List.{List, [], _∷_, _++_, zip}
 use Prim.Native.Nat.{ℕ, suc, _+_, _-_, _≤_, _<_}
-use lib.ListN.{length, getD, take, drop}
+use lib.ListN.{length, getD, take}
 use lib.Seq.{slice}
 use Rattle.page_tree.specs.declared.Row.{Row}
 use Rattle.page_tree.specs.declared.Cuts.{Cuts}
@@ -26,10 +26,6 @@ rowOf r = take (r .count) (places r)
 -- The entries from one place up to another.
 abbrev pub partOf : Row → ℕ → ℕ → List Pair
 partOf r from to = slice from to (places r)
-
--- A list with x before its element i.
-abbrev pub insertedAt : {A : Type 0} → ℕ → A → List A → List A
-insertedAt i x xs = take i xs ++ x ∷ drop i xs
 
 -- The row has n entries, and they are es.
 pub record Holds (r : Row) (n : ℕ) (es : List Pair) : Type 0 where

@@ -4,7 +4,7 @@ ghost use mathlib.Core.List.{[], _∷_, _++_};
 ghost use Prim.Native.Nat.{_+_, _-_, _≤_, _<_};
 ghost use lib.ListN.{length, getD, set};
 ghost use Rattle.page_tree.specs.Cutting.{split};
-ghost use Rattle.page_tree.specs.Row.{depthOf, rowOf, partOf, insertedAt, Holds, CutPre, CutPost, CutsPost};
+ghost use Rattle.page_tree.specs.Row.{depthOf, rowOf, partOf, Holds, CutPre, CutPost, CutsPost};
 
 // What deletion asks of the entry before, on its way back to the left: nothing; to take a depth;
 // to go where it is a dummy deeper than a depth.
@@ -76,30 +76,6 @@ impl Row {
         let mut r = self;
         r.depths[i] = d;
         r.pointers[i] = p;
-        r
-    }
-
-    // One entry more, before entry i: it is put at the end and swapped down.
-    pub fn insert(self, i: usize, d: u8, p: u32) -> Row
-        requires { ⌜ (i ≤ self .count) × (self .count < 319) ⌝ }
-        ensures { λ r. ⌜ Holds r (self .count + 1) (insertedAt i (d, p) (rowOf self)) ⌝ }
-    {
-        let mut r = self;
-        let n = r.count;
-        r.depths[n] = d;
-        r.pointers[n] = p;
-        let mut k = n;
-        while i < k {
-            let j = k - 1;
-            let dj = r.depths[j];
-            let pj = r.pointers[j];
-            r.depths[k] = dj;
-            r.pointers[k] = pj;
-            r.depths[j] = d;
-            r.pointers[j] = p;
-            k = j;
-        }
-        r.count = n + 1;
         r
     }
 

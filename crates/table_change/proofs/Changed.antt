@@ -140,9 +140,14 @@ off-taken {index} {keys} {used} {key} {leaf} {index₁} h p =
     (off-done (h .sound) (p .bytes) (p .level) (p .root) (p .long) (p .front) (p .pages) key (leaf .pointer) (h .narrow) (h .found) (p .tree))
 
 -- On, from the pages that it leaves.
-pub on-put : {index keys used : List ℕ} {key r : ℕ} {news : Row} {index₁ : List ℕ} → NewKey index keys used key r news → OnPages index key news index₁
+on-put : {index keys used : List ℕ} {key r : ℕ} {news : Row} {index₁ : List ℕ} → NewKey index keys used key r news → OnPages index key news index₁
     → OnDone index keys used key r index₁ (set keys r key) (set used r 1)
 on-put {index} {keys} {used} {key} {r} {news} {index₁} h p =
     let q = p .repaged in
     subst (λ (b : List ℕ). OnDone index keys used key r b (set keys r key) (set used r 1)) (sym (q .written))
     (on-done (h .free-record .sound) (q .bytes) (q .level) (q .root) (q .long) (q .front) (q .pages) key r news (p .fresh) h (p .free) (q .tree ∙ numbered-after (h .news-for) (p .fresh)))
+
+-- The same, with the register as it is then.
+pub on-entered : {index keys used : List ℕ} {key r : ℕ} {news : Row} {index₁ keys₁ used₁ : List ℕ} → NewKey index keys used key r news → OnPages index key news index₁ → keys₁ ≡ set keys r key → used₁ ≡ set used r 1
+    → OnDone index keys used key r index₁ keys₁ used₁
+on-entered h p k u = rw (k, u) (on-put h p)

@@ -18,26 +18,30 @@ use Rattle.leaf_list.specs.Insertion.{trailing, insertAt}
 use Rattle.leaf_list.specs.Register.{keyAt, inUse, herdOf}
 use Rattle.leaf_list.proofs.Indexed.{foundIndex, search-index}
 use Rattle.leaf_list.proofs.Laws.{depths-law}
-use Rattle.page_tree.specs.Row.{rowOf}
+use Rattle.page_tree.specs.Row.{rowOf, Holds}
 use Rattle.page_tree.specs.Rows.{All, Closed}
 use Rattle.page_tree.specs.Tree.{depth}
 use Rattle.page_tree.specs.Finding.{Found}
 use Rattle.page_tree.specs.declared.Row.{Row}
 use Rattle.page_tree.proofs.RowMaps.{closed-unmap}
 use Rattle.page_tree.proofs.HerdPages.{found-in-list, new-fits}
-use Rattle.index_table.specs.Layout.{Ref}
+use Rattle.index_table.specs.Layout.{Ref, Fitting}
 use Rattle.index_table.specs.Header.{widthOf}
 use Rattle.index_table.specs.Pages.{recordOf, leafOf}
 use Rattle.index_table.specs.Soundness.{Sound, treeOf}
 use Rattle.index_table.proofs.SoundTables.{herd-narrow, herd-sorted, herd-keys, keys-narrow}
+use Rattle.index_table.proofs.LoadedRows.{row-with}
 use Rattle.table_search.specs.declared.Leaf.{Leaf}
 use Rattle.table_calls.specs.declared.answer.Answer.{Answer}
 use Rattle.table_calls.specs.Answers.{plain, withRecord, found}
 use Rattle.table_calls.specs.Places.{FoundLeaf}
 use Rattle.table_calls.proofs.FoundLeaves.{dummy-absent, other-absent, live-found, live-inside}
 use Rattle.table_change.specs.Changes.{isSome, isHeld}
-use Rattle.table_change.specs.Entries.{entriesIn, entryOf, FoundPre, NewEntries}
+use Rattle.table_change.specs.Entries.{entriesIn, entryOf, refsFor, FoundPre, NewEntries}
+use Rattle.table_change.specs.declared.entries.News.{News}
 use Rattle.table_change.specs.News.{keyIs, foundFor, NewsFor, NewKey}
+use Rattle.table_change.specs.Repaging.{rowFor}
+use Rattle.table_change.proofs.NewLeaves.{news-read, news-fit}
 use Rattle.table_change.proofs.SoundAfter.{herd-tree}
 
 -- ---- an entry of a list whose entries have a property
@@ -154,17 +158,19 @@ module _ {index keys used : List ℕ} (s : Sound index keys used) (key : ℕ) (n
       other l false false a b c e = eqb-false (keyAt keys (leaf .pointer)) key b (sym e)
 
   -- The entries made there are those that belong there.
-  pub news-made : (r : ℕ) (news : Row) → lookup key (herdOf keys used) ≡ none → NewEntries keys w key r leaf news → NewsFor index keys key r news
-  news-made r news absent n =
+  pub news-made : (r : ℕ) {n : News} → lookup key (herdOf keys used) ≡ none → NewEntries keys w key r leaf n → NewsFor index keys key r (rowFor index key n)
+  news-made r {n} absent h =
       let fits = new-fits w _ (herdOf keys used) (treeOf index) (herd-narrow s) (herd-sorted s) (herd-tree s) (keyAt keys) key r narrow (herd-keys s) absent in
-      let made : entriesIn news ≡ insertAt (λ x. bits w (keyAt keys x)) (bits w key) r (foundFor index key .1) (foundFor index key .2 ∷ []) = rw (found-entry, found-trail) (n .entries) in
-      let long : length (entriesIn news) ≡ news .count = length-map (rowOf news) (leafOf 65535) ∙ n .counted in
+      let rows : rowOf (rowFor index key n) ≡ refsFor w key n = row-with (refsFor w key n) in
+      let made : entriesIn (rowFor index key n) ≡ insertAt (λ x. bits w (keyAt keys x)) (bits w key) r (foundFor index key .1) (foundFor index key .2 ∷ []) =
+      rw (found-entry, found-trail) (ap (map (leafOf 65535)) rows ∙ news-read (h .newly) ∙ h .entries) in
+      let long : length (entriesIn (rowFor index key n)) ≡ length (refsFor w key n) = length-map (rowOf (rowFor index key n)) (leafOf 65535) ∙ ap length rows in
       record {
         entries = made;
-        fitting = n .fitting;
+        fitting = subst (Fitting 2) (sym rows) (news-fit (h .newly));
         some = subst (λ (k : ℕ). 1 ≤ k) (sym (ap length made) ∙ long) (fits .longer);
         few = subst (λ (k : ℕ). k ≤ suc w) (sym (ap length made) ∙ long) (omega (arith, fits .few));
-        closed = closed-unmap (λ (y : Ref). y .0) (depth 0) (leafOf 65535) _ (rowOf news) (same (rowOf news)) (subst (Closed (depth 0) _) (sym made) (rw-depth (foundFor index key .2) (insertAt (λ x. bits w (keyAt keys x)) (bits w key) r (foundFor index key .1) (foundFor index key .2 ∷ [])) (fits .closed)));
+        closed = closed-unmap (λ (y : Ref). y .0) (depth 0) (leafOf 65535) _ (rowOf (rowFor index key n)) (same (rowOf (rowFor index key n))) (subst (Closed (depth 0) _) (sym made) (rw-depth (foundFor index key .2) (insertAt (λ x. bits w (keyAt keys x)) (bits w key) r (foundFor index key .1) (foundFor index key .2 ∷ [])) (fits .closed)));
       }
     where
       same : (rows : List Ref) → All (λ (y : Ref). depth 0 (leafOf 65535 y) ≡ y .0) rows
@@ -173,3 +179,16 @@ module _ {index keys used : List ℕ} (s : Sound index keys used) (key : ℕ) (n
 
       rw-depth : (e : Entry) (l : List Entry) → Closed (depth 0) (depth 0 e) l → Closed (depth 0) (depthOf e) l
       rw-depth (entry d p) l h = h
+
+-- Another row with the same entries.
+pub news-in : {index keys : List ℕ} {key r : ℕ} (n : News) {k : ℕ} {row : Row} → NewsFor index keys key r (rowFor index key n) → k ≡ length (refsFor (widthOf index) key n) → Holds row k (refsFor (widthOf index) key n)
+    → NewsFor index keys key r row
+news-in {index} {keys} {key} {r} n {k} {row} h c g =
+    let rows : rowOf row ≡ rowOf (rowFor index key n) = g .entries ∙ sym (row-with (refsFor (widthOf index) key n)) in
+    record {
+      entries = ap (map (leafOf 65535)) rows ∙ h .entries;
+      fitting = subst (Fitting 2) (sym rows) (h .fitting);
+      some = omega (arith, g .count, c, h .some);
+      few = omega (arith, g .count, c, h .few);
+      closed = subst (Closed (λ (y : Ref). y .0) _) (sym rows) (h .closed);
+    }

@@ -1,5 +1,6 @@
 pub mod Dummies
 pub mod NewLeaves
+pub mod NewsWriting
 pub mod Rerooted
 pub mod SoundAfter
 pub mod FoundEntries
@@ -8,3 +9,4 @@ pub mod Changed
 pub mod Repaged
 pub mod RowChoice
 pub mod Entering
+pub mod Opening

@@ -1,13 +1,13 @@
 -- The entries that stand for the entry found, case by case (01, "Insertion (5.1)"). Assumes nothing.
 use mathlib.Core.Path.{_≡_, refl, sym, ap, ap₂, _∙_}
 use mathlib.Core.Logic.{_≢_}
-use mathlib.Core.Bool.{Bool, true, false, cond}
+use mathlib.Core.Bool.{Bool, true, false, cond, _&&_}
 use mathlib.Core.Option.{none, some}
-use mathlib.Core.List.{List, [], _∷_, _++_, map, map-append, append-assoc}
-use Prim.Native.Nat.{ℕ, suc, _+_, _^_, _≤_, _<_}
+use mathlib.Core.List.{List, [], _∷_, _++_, map, map-append}
+use Prim.Native.Nat.{ℕ, _+_, _≤_, _<_}
 use native.Mathlib.Omega.{arith}
 use lib.Dec.{ltb}
-use lib.ListN.{length, length-append}
+use lib.ListN.{length, length-append, length-map}
 use borrow.Author.Tests.{lt-ltb, le-ltb}
 use Rattle.leaf_list.specs.Keys.{Key, bits, below, firstDifference}
 use Rattle.leaf_list.specs.Entries.{Entry, entry}
@@ -15,61 +15,108 @@ use Rattle.leaf_list.specs.Search.{positions}
 use Rattle.leaf_list.specs.Insertion.{leafDepth, dummies, bothLeaves, insertAt}
 use Rattle.leaf_list.specs.Register.{keyAt}
 use Rattle.leaf_list.proofs.Bits.{below-bits}
-use Rattle.leaf_list.proofs.Lists.{all-append}
-use Rattle.page_tree.specs.Row.{Pair, rowOf, Holds}
-use Rattle.page_tree.specs.declared.Row.{Row}
+use Rattle.page_tree.specs.Rows.{All}
 use Rattle.page_tree.proofs.FlatInsertion.{dummies-append}
-use Rattle.index_table.specs.Layout.{Fitting, Ref}
+use Rattle.index_table.specs.Layout.{Fitting}
 use Rattle.index_table.specs.Pages.{recordOf, leafOf}
 use Rattle.table_calls.proofs.FoundLeaves.{record-nil, record-live}
 use Rattle.table_search.specs.declared.Leaf.{Leaf}
-use Rattle.table_change.specs.Entries.{entriesIn, DummiesPost, FoundPre, NewPre, NewPost, NewEntries, entryOf}
+use Rattle.table_change.specs.Entries.{refOf, entriesFor, refsFor, DummiesPre, Newly, FoundPre, NewPre, NewPost, NewEntries}
+use Rattle.table_change.specs.declared.entries.News.{News}
+use Rattle.table_change.proofs.Dummies.{dummies-same}
 
-fits : (rows : List Ref) (x y : Ref) → Fitting 2 rows → x .1 < 65536 → y .1 < 65536 → Fitting 2 (rows ++ x ∷ y ∷ [])
-fits rows x y f a b = all-append (λ (z : Ref). z .1 < 256 ^ 2) rows (x ∷ y ∷ []) f (omega (arith, a), (omega (arith, b), tt))
+-- ---- new entries as they are stored
 
-module _ {w key r old : ℕ} {leaf : Leaf} (pre : NewPre w key r old leaf) {b l : ℕ} (difference : b ≡ firstDifference 0 (bits w key) (bits w old)) (depth : l ≡ leafDepth (leaf .trail) (leaf .depth)) where
+-- The entry's record, if it has one, is not NIL.
+abbrev Storable : Entry → Type 0
+Storable (entry d none) = Unit {0}
+Storable (entry d (some r)) = r < 65535
+
+dummies-storable : (l b : ℕ) (ps : List ℕ) (rest : List Entry) → All Storable rest → All Storable (dummies l b ps rest)
+dummies-storable l b [] rest h = h
+dummies-storable l b (p ∷ ps) rest h = go (ltb l p && ltb p b) (dummies-storable l b ps rest h)
+  where
+    go : (t : Bool) → All Storable (dummies l b ps rest) → All Storable (cond t (entry p none ∷ dummies l b ps rest) (dummies l b ps rest))
+    go true g = (tt, g)
+    go false g = g
+
+news-storable : {w key : ℕ} {n : News} → Newly w key n → All Storable (entriesFor w key n)
+news-storable {w} {key} {n} h = go (n .alone)
+  where
+    go : (t : Bool)
+        → All Storable (cond t (entry (n .depth) (some (n .second)) ∷ []) (dummies (n .low) (n .high) (positions 0 (bits w key)) (entry (n .high) (some (n .first)) ∷ entry (n .depth) (some (n .second)) ∷ [])))
+    go false = dummies-storable (n .low) (n .high) (positions 0 (bits w key)) (entry (n .high) (some (n .first)) ∷ entry (n .depth) (some (n .second)) ∷ []) (h .first-fits, (h .second-fits, tt))
+    go true = (h .second-fits, tt)
+
+stored-back : (es : List Entry) → All Storable es → map (leafOf 65535) (map refOf es) ≡ es
+stored-back [] h = refl
+stored-back (entry d none ∷ es) h = ap (λ (l : List Entry). entry d none ∷ l) (stored-back es (h .1))
+stored-back (entry d (some r) ∷ es) h = ap₂ (λ o (l : List Entry). entry d o ∷ l) (record-live {p = r} (λ e. omega (arith, h .0, e))) (stored-back es (h .1))
+
+stored-fit : (es : List Entry) → All Storable es → Fitting 2 (map refOf es)
+stored-fit [] h = tt
+stored-fit (entry d none ∷ es) h = (omega arith, stored-fit es (h .1))
+stored-fit (entry d (some r) ∷ es) h = (omega (arith, h .0), stored-fit es (h .1))
+
+-- They are read back,
+pub news-read : {w key : ℕ} {n : News} → Newly w key n → map (leafOf 65535) (refsFor w key n) ≡ entriesFor w key n
+news-read {w} {key} {n} h = stored-back (entriesFor w key n) (news-storable h)
+
+-- their pointers fit,
+pub news-fit : {w key : ℕ} {n : News} → Newly w key n → Fitting 2 (refsFor w key n)
+news-fit {w} {key} {n} h = stored-fit (entriesFor w key n) (news-storable h)
+
+-- and there are as many as the count says.
+pub news-long : {w key : ℕ} {n : News} → Newly w key n → length (refsFor w key n) ≡ n .count
+news-long {w} {key} {n} h = length-map (entriesFor w key n) refOf ∙ sym (h .counted)
+
+-- A pair is its dummies, then two leaves.
+pub pair-refs : (w key low high x d y c : ℕ)
+    → refsFor w key (record { alone = false; low = low; high = high; first = x; depth = d; second = y; count = c }) ≡ map refOf (dummies low high (positions 0 (bits w key)) []) ++ (high, x) ∷ (d, y) ∷ []
+pair-refs w key low high x d y c =
+    ap (map refOf) (sym (dummies-append low high (positions 0 (bits w key)) [] (entry high (some x) ∷ entry d (some y) ∷ [])))
+    ∙ map-append refOf (dummies low high (positions 0 (bits w key)) []) (entry high (some x) ∷ entry d (some y) ∷ [])
+
+pair-long : (w key low high x d y c : ℕ)
+    → length (entriesFor w key (record { alone = false; low = low; high = high; first = x; depth = d; second = y; count = c })) ≡ length (dummies low high (positions 0 (bits w key)) []) + 2
+pair-long w key low high x d y c =
+    ap length (sym (dummies-append low high (positions 0 (bits w key)) [] (entry high (some x) ∷ entry d (some y) ∷ [])))
+    ∙ length-append (dummies low high (positions 0 (bits w key)) []) (entry high (some x) ∷ entry d (some y) ∷ [])
+
+-- ---- case by case
+
+module _ {w key r old : ℕ} {leaf : Leaf} (pre : NewPre w key r old leaf) {b l : ℕ} (difference : b ≡ firstDifference 0 (bits w key) (bits w old)) (depth : l ≡ leafDepth (leaf .trail) (leaf .depth)) (inside : b ≤ w) where
   live : recordOf 65535 (leaf .pointer) ≡ some (leaf .pointer)
   live = record-live (λ e. omega (arith, pre .live, e))
 
-  taken : recordOf 65535 r ≡ some r
-  taken = record-live (λ e. omega (arith, pre .free-record, e))
+  between : (low : ℕ) → low ≤ w → DummiesPre w key low b
+  between low h = record { width = pre .width; narrow = pre .narrow; low-inside = h; high-inside = omega (arith, inside) }
 
   -- The first difference is above the leaf's depth.
-  pub new-above : b < l → (row new : Row) → Holds new 0 [] → Holds row (new .count + 2) (rowOf new ++ (b, leaf .pointer) ∷ (leaf .depth, r) ∷ []) → NewPost w key r old leaf row
-  new-above h row new z g =
-      let entries : rowOf row ≡ (b, leaf .pointer) ∷ (leaf .depth, r) ∷ [] = g .entries ∙ ap (λ (s : List Pair). s ++ (b, leaf .pointer) ∷ (leaf .depth, r) ∷ []) (z .entries) in
+  pub new-above : b < l → NewPost w key r old leaf (record { alone = false; low = b; high = b; first = leaf .pointer; depth = leaf .depth; second = r; count = 2 })
+  new-above h =
+      let none-between : dummies b b (positions 0 (bits w key)) (entry b (some (leaf .pointer)) ∷ entry (leaf .depth) (some r) ∷ []) ≡ entry b (some (leaf .pointer)) ∷ entry (leaf .depth) (some r) ∷ [] =
+      dummies-same b (positions 0 (bits w key)) (entry b (some (leaf .pointer)) ∷ entry (leaf .depth) (some r) ∷ []) in
       record {
-        entries = λ keyOf e. rw (entries, live, taken, e, ← difference, ← depth, lt-ltb b l h) refl;
-        fitting = rw entries (fits [] (b, leaf .pointer) (leaf .depth, r) tt (omega (arith, pre .live)) (omega (arith, pre .free-record)));
-        counted = ap length entries ∙ omega (arith, g .count, z .count);
+        entries = λ keyOf e. rw (live, e, ← difference, ← depth, lt-ltb b l h) none-between;
+        newly = record { between = between b inside; closing = pre .depth-inside; first-fits = pre .live; second-fits = pre .free-record; counted = sym (ap length none-between) };
       }
 
   -- It is below: dummies, and the two leaves in key order.
-  module _ (h : l ≤ b) (new dummied row : Row) (z : Holds new 0 []) (d : DummiesPost new w key l b dummied) (x y : ℕ) (g : Holds row (dummied .count + 2) (rowOf dummied ++ (b, x) ∷ (leaf .depth, y) ∷ []))
-      (x-fits : x < 65535) (y-fits : y < 65535) (order : bothLeaves (below (bits w key) (bits w old)) b (leaf .depth) r (leaf .pointer) [] ≡ entry b (some x) ∷ entry (leaf .depth) (some y) ∷ []) where
-    two : List Ref
-    two = (b, x) ∷ (leaf .depth, y) ∷ []
-
-    two-leaves : map (leafOf 65535) two ≡ entry b (some x) ∷ entry (leaf .depth) (some y) ∷ []
-    unfolding two
-    two-leaves = rw (record-live {p = x} (λ e. omega (arith, x-fits, e)), record-live {p = y} (λ e. omega (arith, y-fits, e))) refl
-
-    whole : entriesIn row ≡ dummies l b (positions 0 (bits w key)) (bothLeaves (below (bits w key) (bits w old)) b (leaf .depth) r (leaf .pointer) [])
-    unfolding two
-    whole =
-        ap (map (leafOf 65535)) (g .entries)
-        ∙ map-append (leafOf 65535) (rowOf dummied) two
-        ∙ ap₂ (λ (s t : List Entry). s ++ t) (d .entries ∙ ap (λ (s : List Pair). map (leafOf 65535) s ++ dummies l b (positions 0 (bits w key)) []) (z .entries)) (two-leaves ∙ sym order)
-        ∙ dummies-append l b (positions 0 (bits w key)) [] (bothLeaves (below (bits w key) (bits w old)) b (leaf .depth) r (leaf .pointer) [])
-
-    pub new-below : NewPost w key r old leaf row
-    unfolding two
-    new-below = record {
-      entries = λ keyOf e. rw (live, e, ← difference, ← depth, le-ltb b l h) whole;
-      fitting = rw (g .entries) (fits (rowOf dummied) (b, x) (leaf .depth, y) (d .fitting (rw (z .entries) tt)) (omega (arith, x-fits)) (omega (arith, y-fits)));
-      counted = ap length (g .entries) ∙ length-append (rowOf dummied) two ∙ omega (arith, g .count, d .counted);
-    }
+  pub new-below : l ≤ b → l ≤ w → {n : ℕ} → n ≡ length (dummies l b (positions 0 (bits w key)) []) → (x y : ℕ) → x < 65535 → y < 65535
+      → bothLeaves (below (bits w key) (bits w old)) b (leaf .depth) r (leaf .pointer) [] ≡ entry b (some x) ∷ entry (leaf .depth) (some y) ∷ []
+      → NewPost w key r old leaf (record { alone = false; low = l; high = b; first = x; depth = leaf .depth; second = y; count = n + 2 })
+  new-below h low {n} m x y x-fits y-fits order =
+      record {
+        entries = λ keyOf e. rw (live, e, ← difference, ← depth, le-ltb b l h) (ap (dummies l b (positions 0 (bits w key))) (sym order));
+        newly = record {
+          between = between l low;
+          closing = pre .depth-inside;
+          first-fits = x-fits;
+          second-fits = y-fits;
+          counted = sym (pair-long w key l b x (leaf .depth) y (n + 2) ∙ ap (λ (k : ℕ). k + 2) (sym m));
+        };
+      }
 
   pub order-smaller : key < old → bothLeaves (below (bits w key) (bits w old)) b (leaf .depth) r (leaf .pointer) [] ≡ entry b (some r) ∷ entry (leaf .depth) (some (leaf .pointer)) ∷ []
   order-smaller h = rw (below-bits w key old (pre .narrow) (pre .other-narrow), lt-ltb key old h) refl
@@ -79,13 +126,17 @@ module _ {w key r old : ℕ} {leaf : Leaf} (pre : NewPre w key r old leaf) {b l 
 
 module _ {keys : List ℕ} {w key r : ℕ} {leaf : Leaf} (pre : FoundPre keys w key r leaf) where
   -- "a dummy that is met takes the record"
-  pub new-dummy : leaf .pointer ≡ 65535 → (new row : Row) → Holds new 0 [] → Holds row (new .count + 1) (rowOf new ++ (leaf .depth, r) ∷ []) → NewEntries keys w key r leaf row
-  new-dummy e new row z g =
-      let entries : rowOf row ≡ (leaf .depth, r) ∷ [] = g .entries ∙ ap (λ (s : List Pair). s ++ (leaf .depth, r) ∷ []) (z .entries) in
+  pub new-dummy : leaf .pointer ≡ 65535 → NewEntries keys w key r leaf (record { alone = true; low = 0; high = 0; first = 0; depth = leaf .depth; second = r; count = 1 })
+  new-dummy e =
       record {
-        entries = rw (entries, record-nil e, record-live {p = r} (λ q. omega (arith, pre .free-record, q))) refl;
-        fitting = rw entries (omega (arith, pre .free-record), tt);
-        counted = ap length entries ∙ omega (arith, g .count, z .count);
+        entries = rw (record-nil e) refl;
+        newly = record {
+          between = record { width = pre .width; narrow = pre .narrow; low-inside = omega arith; high-inside = omega arith };
+          closing = pre .depth-inside;
+          first-fits = omega arith;
+          second-fits = pre .free-record;
+          counted = refl;
+        };
       }
 
   -- The leaf of another key.
@@ -101,5 +152,5 @@ module _ {keys : List ℕ} {w key r : ℕ} {leaf : Leaf} (pre : FoundPre keys w 
     other = pre .other n;
   }
 
-  pub new-beside : {row : Row} → NewPost w key r (keyAt keys (leaf .pointer)) leaf row → NewEntries keys w key r leaf row
-  new-beside p = record { entries = p .entries (λ x. bits w (keyAt keys x)) refl; fitting = p .fitting; counted = p .counted }
+  pub new-beside : {n : News} → NewPost w key r (keyAt keys (leaf .pointer)) leaf n → NewEntries keys w key r leaf n
+  new-beside p = record { entries = p .entries (λ x. bits w (keyAt keys x)) refl; newly = p .newly }

@@ -1,8 +1,8 @@
 -- The contracts of the changes of pages, in words of the index table's header. Assumes nothing.
-use mathlib.Core.Path.{_≡_, refl, sym, ap, ap₂, _∙_}
+use mathlib.Core.Path.{_≡_, refl, sym, ap, ap₂, subst, _∙_}
 use mathlib.Core.Bool.{Bool, true, false, cond}
 use mathlib.Core.List.{List}
-use Prim.Native.Nat.{ℕ, zero, suc, _+_, _-_, _^_, _≤_, _<_}
+use Prim.Native.Nat.{ℕ, suc, _+_, _-_, _^_, _≤_, _<_}
 use native.Mathlib.Omega.{arith}
 use native.Mathlib.Numerals.{add-one}
 use lib.Dec.{ltb}
@@ -16,10 +16,10 @@ use Rattle.index_table.specs.Header.{widthOf, entriesOf, pagesOf, rootOf, heldO
 use Rattle.index_table.specs.IndexNumbers.{IndexOf}
 use Rattle.index_table.specs.declared.header.Index.{Index}
 use Rattle.index_table.specs.declared.layout.Root.{Root}
-use Rattle.index_table.specs.Pages.{Pages, pagesAt, sumTo, usedPages}
+use Rattle.index_table.specs.Pages.{pagesAt, usedPages}
 use Rattle.index_table.specs.Soundness.{rootLevel, treeOf, numberedTreeOf}
 use Rattle.index_table.proofs.PageBytes.{within-table}
-use Rattle.index_table.proofs.UsedPages.{used-tree}
+use Rattle.index_table.proofs.UsedPages.{used-tree, used-few}
 use Rattle.table_change.specs.Repaging.{Changeable, Repaged, OffPagesPre, treeWith, lateRowWith, OnPagesPre, Roomy, OnPages}
 use Rattle.table_search.specs.declared.Leaf.{Leaf}
 use Rattle.table_delete.specs.Taking.{TakeAtPre, TakePost}
@@ -27,11 +27,29 @@ use Rattle.table_insert.specs.Putting.{PutPre, PutPost}
 use Rattle.table_plan.specs.Outcomes.{OutcomePre, OutcomePost}
 use Rattle.table_plan.specs.declared.Outcome.{Outcome}
 
--- No more pages are in use than there are.
-used-few : (P : ℕ) (pages : Pages) → usedPages P pages ≤ P
-unfolding sumTo
-used-few zero pages = omega arith
-used-few (suc P) pages = omega (arith, used-few P pages)
+-- What putting entries in asks, where there is room,
+pub putting : {index : List ℕ} {key : ℕ} {news : Row} → OnPagesPre index key news → Roomy index key news → PutPre index (entriesOf index) (pagesOf index) (rootLevel index) (rootOf index) (widthOf index) key news
+putting o m =
+    record {
+      tree = o .changeable .tree;
+      narrow = o .changeable .narrow;
+      some = o .some;
+      few = o .few;
+      fitting = o .fitting;
+      closed = o .closed;
+      level-after = m .low;
+      pages-after = m .pages;
+    }
+
+-- and what it leaves, under its root and with one record more held.
+pub pages-put : {index : List ℕ} {key : ℕ} {news : Row} {b : List ℕ} {r : Root} → PutPost index (entriesOf index) (pagesOf index) (rootLevel index) (rootOf index) (widthOf index) key news b r
+    → OnPages index key news (withHeld (withRoot b (r .page .0)) (suc (heldOf index)))
+pages-put {b = b} {r = r} q =
+    record {
+      fresh = q .fresh;
+      free = q .free;
+      repaged = record { bytes = b; level = r .level; root = r .page .0; long = q .long; front = q .front; pages = q .pages; tree = q .tree; written = refl };
+    }
 
 module _ {index : List ℕ} {key : ℕ} (c : Changeable index key) (h : Index) (i : IndexOf index h) where
   pub header-bytes : 16 ≤ length index
@@ -98,16 +116,10 @@ module _ {index : List ℕ} {key : ℕ} (c : Changeable index key) (h : Index) (
         row-neither g k = planned (rw (le-ltb 15 (r .level) g, le-ltb (pagesOf index) (treePages (treeOf index) + r .fresh) (omega (arith, k, i .pages))) refl)
 
       pub put-pre : Roomy index key news → PutPre index (h .entries) (h .pages) level (h .root .0) w key news
-      put-pre m =
-          rw (level-is, width-is, i .entries, i .pages, i .root)
-          (record { tree = c .tree; narrow = c .narrow; some = o .some; few = o .few; fitting = o .fitting; closed = o .closed; level-after = m .low; pages-after = m .pages })
+      put-pre m = rw (level-is, width-is, i .entries, i .pages, i .root) (putting o m)
 
       pub on-repaged : (b : List ℕ) (r : Root) (rooted index₁ : List ℕ) → PutPost index (h .entries) (h .pages) level (h .root .0) w key news b r
           → rooted ≡ withRoot b (r .page .0) → index₁ ≡ withHeld rooted (h .held + 1) → OnPages index key news index₁
       on-repaged b r rooted index₁ p f g =
           let q : PutPost index (entriesOf index) (pagesOf index) (rootLevel index) (rootOf index) (widthOf index) key news b r = rw (level-is, width-is, i .entries, i .pages, i .root) at p in
-          record {
-            fresh = q .fresh;
-            free = q .free;
-            repaged = record { bytes = b; level = r .level; root = r .page .0; long = q .long; front = q .front; pages = q .pages; tree = q .tree; written = rw (← i .held, ← add-one (h .held), ← f) g };
-          }
+          subst (OnPages index key news) (sym (rw (← i .held, ← add-one (h .held), ← f) g)) (pages-put q)

@@ -8,7 +8,7 @@ use Prim.Native.Nat.{ℕ, suc, _^_, _≤_, _<_}
 use native.Mathlib.Omega.{arith}
 use lib.Dec.{leb, ltb}
 use lib.ListN.{length}
-use borrow.Author.Tests.{lt-leb, leb-false, ltb-false}
+use borrow.Author.Tests.{lt-leb, leb-false, le-ltb, ltb-false}
 use Rattle.leaf_list.specs.Herd.{Herd, lookup}
 use Rattle.leaf_list.specs.Register.{inUse, herdOf}
 use Rattle.leaf_list.proofs.Laws.{neighbours-law}
@@ -140,3 +140,7 @@ late-roomy index key news e = go (ltb 15 (treeWith index key news .0)) (ltb (pag
     go true u a b c = absurd (omega (arith, c))
     go false true a b c = absurd (omega (arith, c))
     go false false a b c = record { low = ltb-false 15 (treeWith index key news .0) a; pages = ltb-false (pagesOf index) (treePages (treeWith index key news)) b }
+
+-- Where there is room neither applies.
+pub roomy-late : (index : List ℕ) (key : ℕ) (news : Row) → Roomy index key news → lateRowWith index key news ≡ 0
+roomy-late index key news h = rw (le-ltb 15 (treeWith index key news .0) (h .low), le-ltb (pagesOf index) (treePages (treeWith index key news)) (h .pages)) refl

@@ -1,10 +1,10 @@
 -- The pages of sound tables changed, and the header's root and records held with them. Assumes nothing.
 use mathlib.Core.Path.{_≡_}
-use mathlib.Core.Bool.{cond}
+use mathlib.Core.Bool.{Bool, true, cond}
 use mathlib.Core.Option.{some}
 use mathlib.Core.List.{List, []}
-use Prim.Native.Nat.{ℕ, suc, _-_, _^_, _≤_, _<_}
-use lib.Dec.{ltb}
+use Prim.Native.Nat.{ℕ, suc, _+_, _-_, _^_, _≤_, _<_}
+use lib.Dec.{leb, ltb}
 use lib.ListN.{length, take}
 use Rattle.leaf_list.specs.Keys.{bits}
 use Rattle.leaf_list.specs.Herd.{lookup}
@@ -15,19 +15,21 @@ use Rattle.page_tree.specs.Row.{rowOf}
 use Rattle.page_tree.specs.Rows.{All, Closed}
 use Rattle.page_tree.specs.Tree.{Tree, pagesOf as treePages}
 use Rattle.page_tree.specs.OnPages.{insertTree}
-use Rattle.page_tree.specs.Numbered.{NumberedTree, insertNumberedTree, offNumbered}
+use Rattle.page_tree.specs.Numbered.{NumberedTree, insertNumberedTree}
 use Rattle.page_tree.specs.declared.Row.{Row}
 use Rattle.leaf_list.specs.Entries.{depthOf}
-use Rattle.index_table.specs.Layout.{layoutOf, Ref, Fitting}
+use Rattle.index_table.specs.Layout.{layoutOf, pageBytes, levelOf, Ref, Fitting, rowPage, store}
 use Rattle.index_table.specs.Header.{widthOf, entriesOf, pagesOf, rootOf, heldOf, withRoot, withHeld}
 use Rattle.index_table.specs.Pages.{pagesAt, numberedTreeAt}
 use Rattle.index_table.specs.Soundness.{Sound, SoundPages, rootLevel, treeOf, numberedTreeOf, leafEntries}
 use Rattle.index_table.specs.Standing.{TreeTable}
-use Rattle.index_table.specs.Storing.{newLeaves}
+use Rattle.index_table.specs.Storing.{newLeaves, splicedAt, rowWith, Openable}
 use Rattle.table_search.specs.declared.Leaf.{Leaf}
 use Rattle.table_search.specs.Places.{NextPosition, Way}
 use Rattle.table_calls.specs.Places.{FoundLeaf}
-use Rattle.table_change.specs.News.{foundFor}
+use Rattle.table_change.specs.declared.entries.News.{News}
+use Rattle.table_change.specs.Entries.{refsFor, Newly}
+use Rattle.table_change.specs.News.{foundFor, NewKey}
 
 -- The index table as the change of pages needs it: its tree is sound, and a record more may be held.
 pub record Changeable (index : List ℕ) (key : ℕ) : Type 0 where
@@ -94,3 +96,36 @@ pub record OnPages (index : List ℕ) (key : ℕ) (news : Row) (index₁ : List 
   pub fresh : ℕ → List ℕ
   pub free : (n : ℕ) → All (λ q. pagesAt (layoutOf (entriesOf index)) index q ≡ []) (fresh n)
   pub repaged : Repaged index (numberedWith fresh index key news) (suc (heldOf index)) index₁
+
+-- ---- on, where the page found has room
+
+-- Whether page p has room for n entries in the place of one of its own.
+abbrev pub roomFor : List ℕ → ℕ → ℕ → Bool
+roomFor index p n = leb (length (pagesAt (layoutOf (entriesOf index)) index p) + n) (suc (entriesOf index))
+
+pub record OpenPre (index : List ℕ) (p at key : ℕ) (n : News) : Type 0 where
+  pub header : 16 ≤ length index
+  pub held : heldOf index ≤ 65534
+  pub openable : Openable (entriesOf index) index p at (n .count)
+  pub newly : Newly (widthOf index) key n
+
+-- The index table with entries in the place of entry `at` of page p, and one record more held.
+abbrev pub openedWith : List ℕ → ℕ → ℕ → List Ref → List ℕ
+openedWith index p at refs =
+    (let L = layoutOf (entriesOf index) in
+    withHeld (store L index p (rowPage (entriesOf index) (levelOf (pageBytes L index p)) (splicedAt at refs (pagesAt L index p)))) (suc (heldOf index)))
+
+-- The row of new entries.
+abbrev pub rowFor : List ℕ → ℕ → News → Row
+rowFor index key n = rowWith (refsFor (widthOf index) key n)
+
+-- A new key with its entries, and the page found.
+pub record FoundKey (index keys used : List ℕ) (key r : ℕ) (leaf : Leaf) (n : News) : Type 0 where
+  pub new-key : NewKey index keys used key r (rowFor index key n)
+  pub newly : Newly (widthOf index) key n
+  pub found : FoundLeaf index keys used key leaf
+
+-- They fit into the page found.
+pub record FittingKey (index keys used : List ℕ) (key r : ℕ) (leaf : Leaf) (n : News) : Type 0 where
+  pub found-key : FoundKey index keys used key r leaf n
+  pub room : roomFor index (leaf .page .0) (n .count) ≡ true

@@ -1,67 +1,96 @@
 // What stands in the place of the entry found once a key is put in (section 5.1).
 ghost use mathlib.Core.Path.{_≡_};
-ghost use mathlib.Core.List.{[], _∷_, _++_, map};
-ghost use Prim.Native.Nat.{_+_, _≤_, _<_};
+ghost use mathlib.Core.List.{[]};
+ghost use Prim.Native.Nat.{_≤_};
+ghost use lib.ListN.{length};
 ghost use Rattle.leaf_list.specs.Keys.{bits};
 ghost use Rattle.leaf_list.specs.Insertion.{dummies};
 ghost use Rattle.leaf_list.specs.Search.{positions};
-ghost use Rattle.index_table.specs.Pages.{leafOf};
-ghost use Rattle.page_tree.specs.Row.{rowOf, Holds};
-ghost use Rattle.table_change.specs.Entries.{DummiesPre, DummiesPost, LeavesPre, FoundPre, NewPre, NewPost, NewEntries};
-use page_tree::Row;
+ghost use Rattle.table_change.specs.Entries.{DummiesPre, FoundPre, NewPre, NewPost, NewEntries};
 use table_search::Leaf;
 
-// A dummy for each one-bit p of the key with low < p < high.
-fn push_dummies(row: Row, w: u64, key: u64, low: u64, high: u64) -> Row
-    requires { ⌜ DummiesPre row w key low high ⌝ }
-    ensures { λ r. ⌜ DummiesPost row w key low high r ⌝ }
+// New entries: a dummy for each one-bit p of the key with low < p < high, the leaf (high, first) and the leaf (depth, second); or the last alone.
+pub struct News {
+    pub alone: bool,
+    pub low: u64,
+    pub high: u64,
+    pub first: u32,
+    pub depth: u64,
+    pub second: u32,
+    pub count: usize,
+}
+
+// How many one-bits p of the key there are with low < p < high.
+fn count_dummies(w: u64, key: u64, low: u64, high: u64) -> usize
+    requires { ⌜ DummiesPre w key low high ⌝ }
+    ensures { λ r. ⌜ (r ≡ length (dummies low high (positions 0 (bits w key)) [])) × (r ≤ w) ⌝ }
 {
-    let mut r = row;
-    let mut n = r.count;
+    let mut n: usize = 0;
     let mut p = table_search::next_position(w, key, low);
     while p < high {
-        r.depths[n] = p as u8;
-        r.pointers[n] = 65535;
         n += 1;
         p = table_search::next_position(w, key, p);
     }
-    r.count = n;
-    r
+    n
 }
 
-// The leaves of two records, the one of the smaller key first.
-fn push_leaves(row: Row, b: u64, d: u64, first: u32, second: u32) -> Row
-    requires { ⌜ LeavesPre row b d ⌝ }
-    ensures { λ r. ⌜ Holds r (row .count + 2) (rowOf row ++ (b, first) ∷ (d, second) ∷ []) ⌝ }
-{
-    row.push(b as u8, first).push(d as u8, second)
-}
-
-// What stands for a leaf of another key, old.
-fn beside_leaf(w: u64, key: u64, record: u32, old: u64, leaf: Leaf) -> Row
+// What stands for a leaf of another key, old: the leaf of the smaller key first.
+fn beside_leaf(w: u64, key: u64, record: u32, old: u64, leaf: Leaf) -> News
     requires { ⌜ NewPre w key «record» old leaf ⌝ }
     ensures { λ r. ⌜ NewPost w key «record» old leaf r ⌝ }
 {
     let b = leaf_list::first_difference(w, key, old);
     let l = leaf_list::leaf_depth(leaf.trail, leaf.depth);
     if b < l {
-        return push_leaves(Row::new(), b, leaf.depth, leaf.pointer, record);
+        return News {
+            alone: false,
+            low: b,
+            high: b,
+            first: leaf.pointer,
+            depth: leaf.depth,
+            second: record,
+            count: 2,
+        };
     }
-    let row = push_dummies(Row::new(), w, key, l, b);
+    let n = count_dummies(w, key, l, b);
     if key < old {
-        return push_leaves(row, b, leaf.depth, record, leaf.pointer);
+        return News {
+            alone: false,
+            low: l,
+            high: b,
+            first: record,
+            depth: leaf.depth,
+            second: leaf.pointer,
+            count: n + 2,
+        };
     }
-    push_leaves(row, b, leaf.depth, leaf.pointer, record)
+    News {
+        alone: false,
+        low: l,
+        high: b,
+        first: leaf.pointer,
+        depth: leaf.depth,
+        second: record,
+        count: n + 2,
+    }
 }
 
 // What stands for the entry found: a dummy takes the record.
-pub fn new_entries(keys: &[u64], w: u64, key: u64, record: u32, leaf: Leaf) -> Row
+pub fn new_entries(keys: &[u64], w: u64, key: u64, record: u32, leaf: Leaf) -> News
     requires { ⌜ FoundPre (now keys) w key «record» leaf ⌝ }
     ensures { λ r. ⌜ NewEntries (now (keys .entry)) w key «record» leaf r ⌝ }
 {
     let index_table::layout::Answer::Live(other) = index_table::layout::answer_of(leaf.pointer)
     else {
-        return Row::new().push(leaf.depth as u8, record);
+        return News {
+            alone: true,
+            low: 0,
+            high: 0,
+            first: 0,
+            depth: leaf.depth,
+            second: record,
+            count: 1,
+        };
     };
     let at = other.0 as usize;
     beside_leaf(w, key, record, keys[at], leaf)

@@ -1,5 +1,6 @@
 // On and off in sound tables.
 pub mod entries;
+pub mod news;
 pub mod off;
 pub mod on;
 pub mod pages;

@@ -1,11 +1,16 @@
 // The pages of sound tables changed, with the header's root and records held.
 ghost use mathlib.Core.Path.{_≡_};
-ghost use Prim.Native.Nat.{_-_};
+ghost use Prim.Native.Nat.{_-_, _≤_};
+ghost use lib.ListN.{length};
 ghost use Rattle.page_tree.specs.Numbered.{offNumbered};
-ghost use Rattle.index_table.specs.Header.{widthOf, heldOf};
+ghost use Rattle.index_table.specs.Header.{widthOf, entriesOf, heldOf};
+ghost use Rattle.index_table.specs.Layout.{Within, layoutOf};
 ghost use Rattle.index_table.specs.Soundness.{numberedTreeOf};
-ghost use Rattle.table_change.specs.Repaging.{OffPagesPre, Repaged, lateRowWith, OnPagesPre, Roomy, OnPages};
+ghost use Rattle.table_change.specs.Entries.{refsFor};
+ghost use Rattle.table_change.specs.Repaging.{OffPagesPre, Repaged, lateRowWith, OnPagesPre, Roomy, OnPages, roomFor, OpenPre, openedWith};
+use crate::entries::News;
 use index_table::header::Index;
+use index_table::layout::PageNo;
 use page_tree::Row;
 use table_calls::find::wide;
 use table_search::Leaf;
@@ -59,6 +64,27 @@ pub fn late_row(index: &[u8], key: u64, news: Row) -> u32
         return 7;
     }
     0
+}
+
+// Whether a page has room for n entries in the place of one of its own.
+pub fn has_room(index: &[u8], page: PageNo, n: usize) -> bool
+    requires { ⌜ (16 ≤ length (now index)) × Within (layoutOf (entriesOf (now index))) (now index) (page .0) × (n ≤ 319) ⌝ }
+    ensures { λ r. ⌜ r ≡ roomFor (now (index .entry)) (page .0) n ⌝ }
+{
+    let e = index_table::header::read(index).entries;
+    let m = index_table::layout::count(index, e, page);
+    index_table::layout::wide(m) + n <= index_table::layout::wide(e) + 1
+}
+
+// New entries are put in the place of entry `at` of a page that has room for them.
+pub fn open_leaf(index: &mut [u8], page: PageNo, at: usize, key: u64, news: News)
+    requires { ⌜ OpenPre (now index) (page .0) at key news ⌝ }
+    ensures { λ r. ⌜ now (index .exit) ≡ openedWith (now (index .entry)) (page .0) at (refsFor (widthOf (now (index .entry))) key news) ⌝ }
+{
+    let head = index_table::header::read(index);
+    let place = index_table::open::open_page(index, head.entries, page, at, news.count);
+    crate::news::write_news(index, place, wide(head.width), key, news);
+    index_table::write::set_held(index, head.held + 1);
 }
 
 // Entries are put in the place of the one that figure 6 finds for a key.

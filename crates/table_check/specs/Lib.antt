@@ -1,3 +1,4 @@
 pub mod Scans
 pub mod Walks
+pub mod Passes
 pub mod Trees

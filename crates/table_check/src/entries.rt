@@ -129,26 +129,3 @@ pub fn scan_entry(w: u64, keys: &[u64], used: &[u8], held: u64, s: Scan, d: u64,
         },
     }
 }
-
-// One entry that does not close the list, behind what is carried; how many are live is left to the caller.
-pub fn scan_inner(w: u64, keys: &[u64], used: &[u8], s: Scan, d: u64, p: u32) -> Checked
-    requires { ⌜ (w ≤ 64) × (0 < d) × (s .closed ≡ false) × (s .live < countless) × Carried w countless s × NarrowRegister w (now keys) (now used) ⌝ }
-    ensures { λ r. ⌜ Scanned (Unit {0}) w (now (keys .entry)) (now (used .entry)) countless s (entry d (recordOf 65535 p) ∷ []) r × (r .scan .closed ≡ false) × (r .scan .live ≤ suc (s .live)) ⌝ }
-{
-    if !entry_fits(w, keys, used, s, d, p) {
-        return Checked { ok: false, scan: s };
-    }
-    let live = live_behind(s.live, p);
-    let dummy = p == 65535;
-    let disc = leaf_list::next_discriminator(w, s.disc, d);
-    Checked {
-        ok: true,
-        scan: Scan {
-            disc,
-            trail: d,
-            dummy,
-            live,
-            closed: false,
-        },
-    }
-}

@@ -36,6 +36,7 @@ pub fn scan_leaves(
 {
     let w = wide(h.width);
     let held = wide16(h.held);
+    let close = wide(c);
     let n = index_table::layout::wide(index_table::layout::count(index, h.entries, page));
     if n == 0 {
         return Checked { ok: true, scan: s };
@@ -44,21 +45,18 @@ pub fn scan_leaves(
         return Checked { ok: false, scan: s };
     }
     let last = n - 1;
-    let mut scan = s;
+    let mut pass = crate::passes::pass_start(w, close, s);
     let mut i: usize = 0;
     while i < last {
-        let d = index_table::layout::depth(index, h.entries, page, i);
-        if d <= c {
-            return Checked { ok: false, scan: s };
-        }
+        let d = wide(index_table::layout::depth(index, h.entries, page, i));
         let p = index_table::layout::pointer(index, h.entries, page, i);
-        let next = crate::entries::scan_inner(w, keys, used, scan, wide(d), p);
-        if !next.ok {
+        pass = crate::passes::pass_entry(w, keys, used, close, pass, d, p);
+        if !pass.ok {
             return Checked { ok: false, scan: s };
         }
-        scan = next.scan;
         i += 1;
     }
+    let scan = crate::passes::scan_behind(index, h, page, close, s, i, pass);
     if held < scan.live {
         return Checked { ok: false, scan: s };
     }

@@ -12,6 +12,7 @@ pub mod header;
 pub mod leaves;
 pub mod numbers;
 pub mod pages;
+pub mod passes;
 pub mod register;
 pub mod root;
 pub mod zeros;

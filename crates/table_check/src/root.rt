@@ -53,13 +53,33 @@ fn tree_marked(index: &[u8], keys: &[u64], used: &[u8], map: &mut [u8], h: Index
     crate::cleared::all_cleared(index, map, h)
 }
 
-// The same, with a map of its own for the pages met.
-fn tree_sound(index: &[u8], keys: &[u64], used: &[u8], h: Index, level: u8) -> bool
+// The same, with a map of its own for at most 1,024 pages.
+fn small_tree_sound(index: &[u8], keys: &[u64], used: &[u8], h: Index, level: u8) -> bool
+    requires { ⌜ TreePre h (now index) (now keys) (now used) × (h .pages ≤ 1024) ⌝ }
+    ensures { λ r. ⌜ (r ≡ true) ↔ TreeSound h (now (index .entry)) (now (keys .entry)) (now (used .entry)) level ⌝ }
+{
+    let mut map = [0u8; 1024];
+    tree_marked(index, keys, used, &mut map, h, level)
+}
+
+// The same, with a map for as many as there may be.
+fn large_tree_sound(index: &[u8], keys: &[u64], used: &[u8], h: Index, level: u8) -> bool
     requires { ⌜ TreePre h (now index) (now keys) (now used) ⌝ }
     ensures { λ r. ⌜ (r ≡ true) ↔ TreeSound h (now (index .entry)) (now (keys .entry)) (now (used .entry)) level ⌝ }
 {
     let mut map = [0u8; 65536];
     tree_marked(index, keys, used, &mut map, h, level)
+}
+
+// The tree below the root; a map of 65,536 bytes takes longer to clear than a small tree to check.
+fn tree_sound(index: &[u8], keys: &[u64], used: &[u8], h: Index, level: u8) -> bool
+    requires { ⌜ TreePre h (now index) (now keys) (now used) ⌝ }
+    ensures { λ r. ⌜ (r ≡ true) ↔ TreeSound h (now (index .entry)) (now (keys .entry)) (now (used .entry)) level ⌝ }
+{
+    if h.pages <= 1024 {
+        return small_tree_sound(index, keys, used, h, level);
+    }
+    large_tree_sound(index, keys, used, h, level)
 }
 
 // Whether the pages are sound, and the entries on level 0 pass.

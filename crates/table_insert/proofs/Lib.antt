@@ -8,3 +8,4 @@ pub mod InsertSteps
 pub mod Insertions
 pub mod RootSteps
 pub mod Puttings
+pub mod FittingRows

@@ -2,7 +2,7 @@
 use mathlib.Core.Path.{_≡_, refl, sym, ap, subst, _∙_}
 use mathlib.Core.Bool.{Bool, true, false, cond}
 use mathlib.Core.List.{List, [], map}
-use Prim.Native.Nat.{ℕ, suc, _+_, _≤_, _<_}
+use Prim.Native.Nat.{ℕ, suc, _+_, _^_, _≤_, _<_}
 use native.Mathlib.Omega.{arith}
 use lib.Dec.{leb}
 use lib.ListN.{length, length-map, length-take}
@@ -26,14 +26,14 @@ use Rattle.page_tree.proofs.InsertionSound.{Fits, insertTree-root}
 use Rattle.index_table.specs.Layout.{Layout, layoutOf}
 use Rattle.index_table.specs.Pages.{pagesAt, leafOf, nodeAt, numberedAt, treeAt, numberedTreeAt, rootRef, met, metAll, inUse, usedPages}
 use Rattle.index_table.specs.Soundness.{SoundBelow}
-use Rattle.index_table.specs.Standing.{Owned}
+use Rattle.index_table.specs.Standing.{TreeTable, Owned}
 use Rattle.index_table.specs.declared.layout.Root.{Root}
 use Rattle.index_table.specs.Storing.{newLeaves}
 use Rattle.index_table.proofs.SoundNodes.{sound-tree, tree-root-rule, tree-depth}
 use Rattle.index_table.proofs.NumberedPages.{numbered-aside, numbereds-aside, tree-aside}
 use Rattle.index_table.proofs.UsedPages.{used-tree}
 use Rattle.index_table.proofs.StandingLaws.{stands-owned}
-use Rattle.table_search.specs.Places.{leftFrom, NextPosition}
+use Rattle.table_search.specs.Places.{leftFrom, NextPosition, DescendPre}
 use Rattle.table_insert.specs.Inserting.{pageRef, Replaced, InsertPre}
 use Rattle.table_insert.specs.NewRoots.{rootsAt, GrowPre, GrowPost}
 use Rattle.table_insert.specs.Putting.{PutPre, PutPost}
@@ -45,6 +45,20 @@ use Rattle.table_insert.proofs.InsertSteps.{still-free}
 -- The depth of an entry, said twice.
 entry-depth : (x : Entry) → entryDepth x ≡ depth 0 x
 entry-depth (entry d p) = refl
+
+-- The root is a page to descend from.
+pub root-descend : {b : List ℕ} {e P level root w key position : ℕ} → TreeTable b e P level root w → key < 2 ^ w → NextPosition w key 0 position → DescendPre b e P level root w key position
+root-descend tree narrow next =
+    record {
+      closing = 0;
+      sound = tree .pages .below;
+      before = next .above;
+      table = omega (arith, tree .table);
+      depths = tree .depths;
+      width = tree .width;
+      narrow = narrow;
+      high = next .within;
+    }
 
 module _ {b : List ℕ} {e P level root w key : ℕ} {news : Row} (pre : PutPre b e P level root w key news) where
   abbrev L : Layout
@@ -94,17 +108,7 @@ module _ {b : List ℕ} {e P level root w key : ℕ} {news : Row} (pre : PutPre 
     put-insert full =
         record {
           entries-low = pre .tree .entries-low;
-          descend =
-              record {
-                closing = 0;
-                sound = pre .tree .pages .below;
-                before = next .above;
-                table = omega (arith, pre .tree .table);
-                depths = pre .tree .depths;
-                width = pre .tree .width;
-                narrow = pre .narrow;
-                high = next .within;
-              };
+          descend = root-descend (pre .tree) (pre .narrow) next;
           own = own;
           long = full;
           few = omega (arith, pre .few, pre .tree .width);

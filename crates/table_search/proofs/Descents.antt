@@ -87,6 +87,7 @@ module _ {b : List ℕ} {e P n page w key position : ℕ} (pre : DescendPre b e 
         depths = depths-low w n node row same low;
         width = pre .width;
         narrow = pre .narrow;
+        low = omega (arith, pre .before);
         high = pre .high;
       }
 

@@ -1,3 +1,5 @@
 pub mod NextPositions
 pub mod Stops
+pub mod BitsAhead
 pub mod Descents
+pub mod WayEnds

@@ -3,8 +3,9 @@ use mathlib.Core.Path.{_≡_}
 use mathlib.Core.Bool.{cond}
 use mathlib.Core.Logic.{_⊎_}
 use mathlib.Core.List.{List, [], _∷_}
-use Prim.Native.Nat.{ℕ, zero, suc, _+_, _^_, _≤_, _<_}
-use lib.Dec.{leb}
+use Prim.Native.Nat.{ℕ, zero, suc, _+_, _-_, _%_, _^_, _≤_, _<_}
+use lib.Count.{leadingZeros}
+use lib.Dec.{eqb, leb, ltb}
 use lib.ListN.{length, getD, take, drop}
 use Rattle.leaf_list.specs.Keys.{bits}
 use Rattle.leaf_list.specs.Search.{positions}
@@ -34,6 +35,18 @@ pub record NextPosition (w key p r : ℕ) : Type 0 where
   pub above : p < r
   pub within : r ≤ w + 1
 
+-- The key's bits from its one-bit at the position b on, as a number; none at W + 1.
+abbrev pub ahead : ℕ → ℕ → ℕ → ℕ
+ahead w key b = cond (leb b w) (2 ^ (w - b) + key % 2 ^ (w - b)) 0
+
+-- The position of the first of these bits.
+abbrev pub firstPosition : ℕ → ℕ → ℕ
+firstPosition w a = cond (eqb a 0) (w + 1) (leadingZeros 64 a + w - 63)
+
+-- What an entry of depth d leaves of them, once it was passed: the first is taken off where it stands at d.
+abbrev pub aheadOf : ℕ → ℕ → ℕ → ℕ
+aheadOf w a d = cond (ltb (a - 2 ^ (w - d)) (2 ^ (w - d))) (a - 2 ^ (w - d)) a
+
 -- The next position once an entry of depth d was passed at the position b.
 pub record Passed (w key b d r : ℕ) : Type 0 where
   pub left : rest d b (later w key b) ≡ leftFrom w key r
@@ -52,6 +65,7 @@ pub record SeekPre (b : List ℕ) (e page w key position : ℕ) : Type 0 where
   pub depths : All (λ x. x .0 ≤ w) (pagesAt (layoutOf e) b page)
   pub width : w ≤ 64
   pub narrow : key < 2 ^ w
+  pub low : 0 < position
   pub high : position ≤ w + 1
 
 -- The place where figure 6 stops in a page's row, begun with the position b and the depth τ before: the entries before it are passed, and it is

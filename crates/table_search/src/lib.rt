@@ -1,16 +1,17 @@
 // Search in sound tables: figure 6 from the root down.
 ghost use mathlib.Core.Path.{_≡_};
 ghost use Prim.Native.Nat.{_+_, _-_, _%_, _^_, _≤_, _<_};
-ghost use lib.ListN.{length};
-ghost use Rattle.index_table.specs.Layout.{Within, layoutOf, Ref};
+ghost use lib.Dec.{ltb};
+ghost use Rattle.index_table.specs.Layout.{layoutOf};
 ghost use Rattle.index_table.specs.Pages.{pagesAt};
-ghost use Rattle.table_search.specs.Places.{NextPosition, Passed, SeekPre, Stopped, DescendPre, Descended};
+ghost use Rattle.table_search.specs.Places.{ahead, firstPosition, aheadOf, NextPosition, SeekPre, Stopped, DescendPre, Descended};
 use index_table::layout::PageNo;
 use index_table::layout::child;
 use index_table::layout::count;
 use index_table::layout::depth;
 use index_table::layout::pointer;
 use index_table::layout::wide;
+use leaf_list::bit;
 
 // A place in a page: the entry, the next position, and the depth before the entry.
 pub struct Spot {
@@ -37,7 +38,18 @@ fn last_bits(w: u64, key: u64, p: u64) -> u64
     if p == 0 {
         return key;
     }
-    key % (1u64 << (w - p))
+    key % bit(w, p)
+}
+
+// The position of the first of the bits ahead; w + 1 where there is none.
+fn first_position(w: u64, ahead: u64) -> u64
+    requires { ⌜ (w ≤ 64) × (ahead < 2 ^ w) ⌝ }
+    ensures { λ r. ⌜ r ≡ firstPosition w ahead ⌝ }
+{
+    if ahead == 0 {
+        return w + 1;
+    }
+    u64::leading_zeros(ahead) as u64 + w - 63
 }
 
 // The position that follows the first p bits of a key: its next one-bit, or w + 1.
@@ -45,51 +57,70 @@ pub fn next_position(w: u64, key: u64, p: u64) -> u64
     requires { ⌜ (w ≤ 64) × (p ≤ w) × (key < 2 ^ w) ⌝ }
     ensures { λ r. ⌜ NextPosition w key p r ⌝ }
 {
-    let rest = last_bits(w, key, p);
-    if rest == 0 {
-        return w + 1;
-    }
-    u64::leading_zeros(rest) as u64 + w - 63
+    first_position(w, last_bits(w, key, p))
 }
 
-// The entry of a page at which figure 6 stops, begun at a position and with the depth before.
+// The bits of a key from its one-bit at position b on.
+fn bits_ahead(w: u64, key: u64, b: u64) -> u64
+    requires { ⌜ (w ≤ 64) × (0 < b) ⌝ }
+    ensures { λ r. ⌜ r ≡ ahead w key b ⌝ }
+{
+    if w < b {
+        return 0;
+    }
+    let first = bit(w, b);
+    first + key % first
+}
+
+// Whether figure 6 stops at an entry of depth d: it is shallower than the first of the bits ahead.
+fn stops_at(w: u64, ahead: u64, d: u64) -> bool
+    requires { ⌜ (w ≤ 64) × (d ≤ w) × (ahead < 2 ^ w) ⌝ }
+    ensures { λ r. ⌜ r ≡ ltb ahead (2 ^ (w - d)) ⌝ }
+{
+    if d == 0 {
+        return true;
+    }
+    ahead < bit(w, d)
+}
+
+// The bits ahead once an entry of depth d was passed.
+fn passed(w: u64, ahead: u64, d: u64) -> u64
+    requires { ⌜ (w ≤ 64) × (0 < d) × (d ≤ w) × (2 ^ (w - d) ≤ ahead) ⌝ }
+    ensures { λ r. ⌜ r ≡ aheadOf w ahead d ⌝ }
+{
+    let first = bit(w, d);
+    let behind = ahead - first;
+    if behind < first { behind } else { ahead }
+}
+
+// The entry of a page at which figure 6 stops, begun at a position and with the depth before. In the page the key's bits from that position on are
+// carried.
 pub fn seek(index: &[u8], e: u8, page: PageNo, w: u64, key: u64, position: u64, trail: u64) -> Spot
     requires { ⌜ SeekPre (now index) e (page .0) w key position ⌝ }
     ensures { λ r. ⌜ Stopped w key position trail (pagesAt (layoutOf e) (now (index .entry)) (page .0)) r ⌝ }
 {
     let n = wide(count(index, e, page));
-    let mut b = position;
+    let mut bits = bits_ahead(w, key, position);
     let mut t = trail;
     let mut i: usize = 0;
     while i + 1 < n {
         let d = deep(depth(index, e, page, i));
-        if d < b {
+        if stops_at(w, bits, d) {
             return Spot {
                 at: i,
-                position: b,
+                position: first_position(w, bits),
                 trail: t,
             };
         }
-        b = passed_position(w, key, b, d);
+        bits = passed(w, bits, d);
         t = d;
         i += 1;
     }
     Spot {
         at: i,
-        position: b,
+        position: first_position(w, bits),
         trail: t,
     }
-}
-
-// The next position once an entry of depth d at or below position b was passed.
-fn passed_position(w: u64, key: u64, b: u64, d: u64) -> u64
-    requires { ⌜ (w ≤ 64) × (key < 2 ^ w) × (b ≤ w + 1) × (d ≤ w) ⌝ }
-    ensures { λ r. ⌜ Passed w key b d r ⌝ }
-{
-    if d != b {
-        return b;
-    }
-    next_position(w, key, b)
 }
 
 fn deep(x: u8) -> u64

@@ -1,17 +1,16 @@
--- Between two reads the day book is ready; the turns are counted down. Assumes nothing.
+-- Between two reads the claim is the same; the turns are counted down. Assumes nothing.
 use borrow.Author.Needs.{needs}
 use mathlib.Core.Path.{_≡_, refl}
-use native.Mathlib.Omega.{arith}
 use lib.ListN.{length}
-use Rattle.daybook.specs.Progress.{Ready}
+use Rattle.daybook.specs.Readings.{Between}
 use Rattle.daybook.proofs.answer_all.Statement.{statement}
 use Rattle.daybook.proofs.answer_all.Tie as tie
 
 abbrev Inv-loop : tie.InvT-loop
-Inv-loop index₀ keys₀ used₀ held₀ out₀ p₀ turns₀ index keys used held out p turns = Ready held out p × (length index ≡ length index₀) × (length keys ≡ length keys₀) × (length used ≡ length used₀) × (length held ≡ length held₀) × (length out ≡ length out₀)
+Inv-loop index₀ keys₀ used₀ held₀ out₀ r₀ turns₀ index keys used held out r turns = Between held out r × (length index ≡ length index₀) × (length keys ≡ length keys₀) × (length used ≡ length used₀) × (length held ≡ length held₀) × (length out ≡ length out₀)
 
 abbrev μ-loop : tie.MeasureT-loop
-μ-loop index₀ keys₀ used₀ held₀ out₀ p₀ turns₀ index keys used held out p turns = turns
+μ-loop index₀ keys₀ used₀ held₀ out₀ r₀ turns₀ index keys used held out r turns = turns
 
 loop-holds : tie.Need-loop-holds Inv-loop μ-loop
 loop-holds c = (c .before .before .before .before .before .pre, refl, refl, refl, refl, refl)

@@ -1,71 +1,37 @@
 -- What stands for a leaf of another key. Assumes nothing.
-use borrow.Author.Needs.{needs}
 use native.Mathlib.Omega.{arith}
 use Rattle.table_change.proofs.NewLeaves.{new-above, new-below, order-smaller, order-larger}
+use borrow.Author.Needs.{needs}
 use Rattle.table_change.proofs.entries.beside_leaf.Statement.{statement}
 use Rattle.table_change.proofs.entries.beside_leaf.Tie as tie
 
--- src/entries.rt:45:9
 first-difference-requires : tie.Need-first-difference-requires
 first-difference-requires c κs = search needs
 
--- src/entries.rt:46:9
 leaf-depth-requires : tie.Need-leaf-depth-requires
 leaf-depth-requires c κs = search needs
 
--- src/entries.rt:48:28
-new-requires : tie.Need-new-requires
-new-requires c κs = search needs
-
--- src/entries.rt:48:9
-push-leaves-requires : tie.Need-push-leaves-requires
-push-leaves-requires c κs = search needs
-
--- src/entries.rt:48:9
 returns : tie.Need-returns
-returns c =
-    let made = c .before in
-    let measured = made .before .before in
-    let start = measured .before .before in
-    new-above (start .pre) (measured .before .first-difference .ensures .0) (measured .leaf-depth .ensures .0) (omega arith) _ _ (made .new .ensures) (c .push-leaves .ensures)
+returns c = new-above (c .before .before .before .pre) (c .before .before .first-difference .ensures .0) (c .before .leaf-depth .ensures .0) (c .before .before .first-difference .ensures .2) (c .if1 .taken)
 
--- src/entries.rt:50:28
-new-requires-2 : tie.Need-new-requires-2
-new-requires-2 c κs = search needs
+count-dummies-requires : tie.Need-count-dummies-requires
+count-dummies-requires c κs = search needs
 
--- src/entries.rt:50:9
-push-dummies-requires : tie.Need-push-dummies-requires
-push-dummies-requires c κs = search needs
+add-t10 : tie.Need-add-t10
+add-t10 c = omega (arith, c .before .count-dummies .ensures .1, c .before .before .before .before .before .pre .width)
 
--- src/entries.rt:52:9
-push-leaves-requires-2 : tie.Need-push-leaves-requires-2
-push-leaves-requires-2 c κs = search needs
-
--- src/entries.rt:52:9
 returns-2 : tie.Need-returns-2
 returns-2 c =
-    let dummied = c .before .before in
-    let measured = dummied .before .before .before in
-    let start = measured .before .before in
-    let difference = measured .before .first-difference .ensures .0 in
-    let depth = measured .leaf-depth .ensures .0 in
-    new-below (start .pre) difference depth (omega arith) _ _ _ (dummied .before .new2 .ensures) (dummied .push-dummies .ensures) _ _ (c .push-leaves2 .ensures) (start .pre .free-record) (start .pre .live)
-    (order-smaller (start .pre) difference depth (omega arith))
+    let pre = c .before .before .before .before .before .pre in
+    new-below pre (c .before .before .before .before .first-difference .ensures .0) (c .before .before .before .leaf-depth .ensures .0) (c .before .before .before .before .first-difference .ensures .2) (omega arith) (omega (arith, c .before .before .before .leaf-depth .ensures .1, pre .depth-inside, pre .trail-inside)) (c .before .count-dummies .ensures .0) _ _ (pre .free-record) (pre .live) (order-smaller pre (c .before .before .before .before .first-difference .ensures .0) (c .before .before .before .leaf-depth .ensures .0) (c .before .before .before .before .first-difference .ensures .2) (c .if2 .taken))
 
--- src/entries.rt:54:5
-push-leaves-requires-3 : tie.Need-push-leaves-requires-3
-push-leaves-requires-3 c κs = search needs
+add-t11 : tie.Need-add-t11
+add-t11 c = omega (arith, c .before .count-dummies .ensures .1, c .before .before .before .before .before .pre .width)
 
--- src/entries.rt:41:1
 returns-3 : tie.Need-returns-3
 returns-3 c =
-    let dummied = c .before .before in
-    let measured = dummied .before .before .before in
-    let start = measured .before .before in
-    let difference = measured .before .first-difference .ensures .0 in
-    let depth = measured .leaf-depth .ensures .0 in
-    new-below (start .pre) difference depth (omega arith) _ _ _ (dummied .before .new2 .ensures) (dummied .push-dummies .ensures) _ _ (c .push-leaves3 .ensures) (start .pre .live) (start .pre .free-record)
-    (order-larger (start .pre) difference depth (omega arith))
+    let pre = c .before .before .before .before .before .pre in
+    new-below pre (c .before .before .before .before .first-difference .ensures .0) (c .before .before .before .leaf-depth .ensures .0) (c .before .before .before .before .first-difference .ensures .2) (omega arith) (omega (arith, c .before .before .before .leaf-depth .ensures .1, pre .depth-inside, pre .trail-inside)) (c .before .count-dummies .ensures .0) _ _ (pre .live) (pre .free-record) (order-larger pre (c .before .before .before .before .first-difference .ensures .0) (c .before .before .before .leaf-depth .ensures .0) (c .before .before .before .before .first-difference .ensures .2) (c .if2 .left))
 
 pub beside-leaf-spec : {M : Type 1} → statement M
 beside-leaf-spec =
@@ -73,12 +39,9 @@ beside-leaf-spec =
     (tie.spec
     first-difference-requires
     leaf-depth-requires
-    new-requires
-    push-leaves-requires
     returns
-    new-requires-2
-    push-dummies-requires
-    push-leaves-requires-2
+    count-dummies-requires
+    add-t10
     returns-2
-    push-leaves-requires-3
+    add-t11
     returns-3)

@@ -10,46 +10,24 @@ use Rattle.table_change.proofs.NewLeaves.{new-dummy, other-leaf, new-be
 use Rattle.table_change.proofs.entries.new_entries.Statement.{statement}
 use Rattle.table_change.proofs.entries.new_entries.Tie as tie
 
--- src/entries.rt:62:52
 answer-of-requires : tie.Need-answer-of-requires
 answer-of-requires c κs = search needs
 
--- src/entries.rt:62:43
 enum-known-other : tie.Need-enum-known-other
 enum-known-other c = search needs
 
--- src/entries.rt:63:16
 enum-told : tie.Need-enum-told
 enum-told c = search needs
 
--- src/entries.rt:63:16
-new-requires : tie.Need-new-requires
-new-requires c κs = search needs
-
--- src/entries.rt:63:32
-cast-push : tie.Need-cast-push
-cast-push c = search needs
-
--- src/entries.rt:63:9
-push-requires : tie.Need-push-requires
-push-requires c κs = search needs
-
--- src/entries.rt:63:9
 returns : tie.Need-returns
-returns c =
-    let made = c .before .before in
-    let answer = made .before .before .before in
-    new-dummy (answer .before .before .pre) (dummy-pointer _ _ (answer .answer-of .ensures) (made .before .enum-told .given .1)) _ _ (made .new .ensures) (c .push .ensures)
+returns c = new-dummy (c .before .before .before .before .pre) (dummy-pointer _ _ (c .before .before .answer-of .ensures) (c .enum-told .given .1))
 
--- src/entries.rt:65:14
 cast-at : tie.Need-cast-at
 cast-at c = search needs
 
--- src/entries.rt:66:33
 mul-beside-leaf : tie.Need-mul-beside-leaf
 mul-beside-leaf c = search needs
 
--- src/entries.rt:66:33
 shared-slice-read-beside-leaf : tie.Need-shared-slice-read-beside-leaf
 shared-slice-read-beside-leaf c =
     let at = c .before .before .before in
@@ -58,7 +36,6 @@ shared-slice-read-beside-leaf c =
     let live = live-pointer _ _ _ (answer .answer-of .ensures) (at .other .given .1) in
     subst (λ (n : ℕ). n < length (start .args .keys .now)) (live .1) (start .pre .inside (live .0))
 
--- src/entries.rt:66:5
 beside-leaf-requires : tie.Need-beside-leaf-requires
 beside-leaf-requires c κs =
     let at = c .before .before .before in
@@ -67,7 +44,6 @@ beside-leaf-requires c κs =
     let live = live-pointer _ _ _ (answer .answer-of .ensures) (at .other .given .1) in
     subst (λ (n : ℕ). NewPre (start .args .w) (start .args .key) (start .args .«record») (keyAt (start .args .keys .now) n) (start .args .leaf)) (live .1) (other-leaf (start .pre) (live .0))
 
--- src/entries.rt:58:1
 returns-2 : tie.Need-returns-2
 returns-2 c =
     let at = c .before .before .before .before in
@@ -84,9 +60,6 @@ new-entries-spec =
     answer-of-requires
     enum-known-other
     enum-told
-    new-requires
-    cast-push
-    push-requires
     returns
     cast-at
     mul-beside-leaf

@@ -1,22 +1,20 @@
 -- The entries of a page of level 0: after each turn what is left is in order exactly if the whole row is. Assumes nothing.
-use mathlib.Core.Path.{_≡_, refl, sym, _∙_}
-use mathlib.Core.Bool.{false}
-use mathlib.Core.List.{[]}
+use mathlib.Core.Path.{refl, _∙_}
 use Prim.Native.Nat.{_+_, _-_, _≤_}
 use native.Mathlib.Omega.{arith}
-use borrow.Author.Tests.{not-true, not-false, eq-eqb, ne-eqb, le-ltb, lt-ltb}
-use Rattle.table_check.proofs.RowTurns.{RowTurn, entry-few, row-start, row-depth, row-entry, row-more, row-all, leaf-sound, leaf-marks, leaf-closed, leaf-last}
-use Rattle.table_check.proofs.UncountedTurns.{uncounted, carried-uncounted, refused-uncounted, carried-counted, too-many-live, turn-counted}
+use borrow.Author.Tests.{not-true, not-false, eq-eqb, ne-eqb}
+use Rattle.table_check.proofs.RowTurns.{row-start, row-depth, row-all, leaf-sound, leaf-closed, leaf-last}
+use Rattle.table_check.proofs.UncountedTurns.{carried-uncounted, carried-counted, too-many-live, turn-counted}
+use Rattle.table_check.proofs.PassTurns.{Named, named-few, PassTurn, pass-begun, pass-pre, pass-ends, pass-stops, pass-goes}
 use borrow.Author.Needs.{needs}
 use Rattle.table_check.proofs.leaves.scan_leaves.Statement.{statement}
 use Rattle.table_check.proofs.leaves.scan_leaves.Tie as tie
 
 abbrev Inv-loop : tie.InvT-loop
-Inv-loop index keys used h page c s w held n last scan₀ i₀ scan i =
-    (i ≤ last) × (scan .live ≤ h .held + i) × (scan .closed ≡ false) × RowTurn (uncounted h) index keys used (page .0) c 0 n [] scan₀ [] scan i
+Inv-loop index keys used h page c s w held close n last pass₀ i₀ pass i = Named h index (page .0) c w held close n last × (i ≤ last) × PassTurn h index keys used (page .0) c n s pass i
 
 abbrev μ-loop : tie.MeasureT-loop
-μ-loop index keys used h page c s w held n last scan₀ i₀ scan i = last - i
+μ-loop index keys used h page c s w held close n last pass₀ i₀ pass i = last - i
 
 wide-requires : tie.Need-wide-requires Inv-loop μ-loop
 wide-requires c κs = search needs
@@ -24,41 +22,75 @@ wide-requires c κs = search needs
 wide16-requires : tie.Need-wide16-requires Inv-loop μ-loop
 wide16-requires c κs = search needs
 
-count-requires : tie.Need-count-requires Inv-loop μ-loop
-count-requires c κs = c .before .before .before .before .before .pre .within
-
 wide-requires-2 : tie.Need-wide-requires-2 Inv-loop μ-loop
 wide-requires-2 c κs = search needs
 
-returns : tie.Need-returns Inv-loop μ-loop
-returns c = row-all (row-start _ _ _ (c .before .wide2 .ensures .0 ∙ c .before .before .count .ensures) (λ q. omega arith) (c .before .before .before .before .before .before .before .before .pre .carried)) (omega (arith, c .if1 .taken))
-
-returns-2 : tie.Need-returns-2 Inv-loop μ-loop
-returns-2 c = leaf-closed (row-start _ _ _ (c .before .before .wide2 .ensures .0 ∙ c .before .before .before .count .ensures) (λ q. omega arith) (c .before .before .before .before .before .before .before .before .before .pre .carried)) (omega (arith, c .before .if1 .left)) (c .if2 .taken)
-
-sub-last : tie.Need-sub-last Inv-loop μ-loop
-sub-last c = search needs
-
-loop-holds : tie.Need-loop-holds Inv-loop μ-loop
-loop-holds c = (omega arith, omega (arith, c .before .before .before .before .before .before .before .before .before .pre .carried .live), c .if2 .left, row-start _ _ _ (c .before .before .wide2 .ensures .0 ∙ c .before .before .before .count .ensures) (λ q. omega arith) (carried-uncounted (omega (arith, c .before .before .before .before .wide16 .ensures)) (c .before .before .before .before .before .before .before .before .before .pre .carried)))
-
-depth-requires : tie.Need-depth-requires Inv-loop μ-loop
-depth-requires c κs = (c .before .before .before .before .before .before .before .before .before .before .before .pre .within, entry-few (c .before .before .before .before .before .before .before .before .before .before .before .args .h) (c .before .before .before .before .before .before .before .before .before .before .before .args .index .now) (c .before .before .before .before .before .before .before .before .before .before .before .args .page .0) _ _ (c .before .before .before .before .wide2 .ensures .0 ∙ c .before .before .before .before .before .count .ensures) (c .before .before .before .before .before .before .before .before .before .before .before .pre .few) (omega (arith, c .loop-test .taken)))
-
-returns-3 : tie.Need-returns-3 Inv-loop μ-loop
-returns-3 c = refused-uncounted (omega (arith, c .before .before .before .before .before .before .before .before .wide16 .ensures)) refl (row-depth (c .before .before .before .loop .inv .3) (omega (arith, c .before .before .loop-test .taken)) _ (c .before .depth .ensures) (rw (ne-eqb (c .before .before .before .loop .i + 1) (c .before .before .before .before .before .before .wide2 .result) (omega (arith, c .before .before .loop-test .taken))) (le-ltb (c .before .before .before .before .before .before .before .before .before .before .before .before .before .args .c) (c .before .depth .result) (omega (arith, c .if3 .taken)))) (record { ok = false; scan = c .before .before .before .before .before .before .before .before .before .before .before .before .before .args .s }) refl) _ refl
-
-pointer-requires : tie.Need-pointer-requires Inv-loop μ-loop
-pointer-requires c κs = (c .before .before .before .before .before .before .before .before .before .before .before .before .before .pre .within, entry-few (c .before .before .before .before .before .before .before .before .before .before .before .before .before .args .h) (c .before .before .before .before .before .before .before .before .before .before .before .before .before .args .index .now) (c .before .before .before .before .before .before .before .before .before .before .before .before .before .args .page .0) _ _ (c .before .before .before .before .before .before .wide2 .ensures .0 ∙ c .before .before .before .before .before .before .before .count .ensures) (c .before .before .before .before .before .before .before .before .before .before .before .before .before .pre .few) (omega (arith, c .before .before .loop-test .taken)))
+count-requires : tie.Need-count-requires Inv-loop μ-loop
+count-requires c κs = c .before .before .before .before .before .before .pre .within
 
 wide-requires-3 : tie.Need-wide-requires-3 Inv-loop μ-loop
 wide-requires-3 c κs = search needs
 
-scan-inner-requires : tie.Need-scan-inner-requires Inv-loop μ-loop
-scan-inner-requires c κs = (omega (arith, c .before .before .before .before .before .before .before .before .before .before .before .before .before .before .before .pre .width, c .before .before .before .before .before .before .before .before .before .before .before .wide .ensures .0), omega (arith, c .wide3 .ensures .0, c .before .before .if3 .left), c .before .before .before .before .before .loop .inv .2, omega (arith, c .before .before .before .before .before .loop .inv .1, c .before .before .before .before .loop-test .taken, c .before .before .before .before .before .before .before .before .wide2 .ensures .1, c .before .before .before .before .before .before .before .before .before .before .wide16 .ensures), rw (c .before .before .before .before .before .before .before .before .before .before .before .wide .ensures .0) (c .before .before .before .before .before .loop .inv .3 .turned .carried), rw (c .before .before .before .before .before .before .before .before .before .before .before .wide .ensures .0) (c .before .before .before .before .before .before .before .before .before .before .before .before .before .before .before .pre .register))
+returns : tie.Need-returns Inv-loop μ-loop
+returns c = row-all (row-start _ _ _ (c .before .wide3 .ensures .0 ∙ c .before .before .count .ensures) (λ q. omega arith) (c .before .before .before .before .before .before .before .before .before .pre .carried)) (omega (arith, c .if1 .taken))
 
-returns-4 : tie.Need-returns-4 Inv-loop μ-loop
-returns-4 c = refused-uncounted (omega (arith, c .before .before .before .before .before .before .before .before .before .before .before .before .before .wide16 .ensures)) (not-true _ (c .if4 .taken)) (row-entry (c .before .before .before .before .before .before .before .before .loop .inv .3) (omega (arith, c .before .before .before .before .before .before .before .loop-test .taken)) (leaf-sound _ _ _ _ _ (c .before .before .before .before .before .before .before .before .before .before .before .before .before .before .wide .ensures .0) refl (c .before .before .before .wide3 .ensures .0 ∙ c .before .before .before .before .before .before .depth .ensures) (c .before .before .before .before .pointer .ensures .0) (c .before .before .scan-inner .ensures .0)) (not-true _ (c .if4 .taken))) _ refl
+returns-2 : tie.Need-returns-2 Inv-loop μ-loop
+returns-2 c = leaf-closed (row-start _ _ _ (c .before .before .wide3 .ensures .0 ∙ c .before .before .before .count .ensures) (λ q. omega arith) (c .before .before .before .before .before .before .before .before .before .before .pre .carried)) (omega (arith, c .before .if1 .left)) (c .if2 .taken)
+
+sub-last : tie.Need-sub-last Inv-loop μ-loop
+sub-last c = search needs
+
+pass-start-requires : tie.Need-pass-start-requires Inv-loop μ-loop
+pass-start-requires c κs = (omega (arith, c .before .before .before .before .before .before .before .before .before .before .pre .width, c .before .before .before .before .before .before .wide .ensures .0), omega (arith, c .before .before .before .before .before .before .before .before .before .before .pre .carried .trail, c .before .before .before .before .before .before .wide .ensures .0))
+
+loop-holds : tie.Need-loop-holds Inv-loop μ-loop
+loop-holds c =
+    let pre = c .before .before .before .before .before .before .before .before .before .before .before .pre in (
+      record {
+        width = c .before .before .before .before .before .before .before .wide .ensures .0;
+        held = c .before .before .before .before .before .before .wide16 .ensures .0;
+        low = c .before .before .before .before .before .before .wide16 .ensures .1;
+        close = c .before .before .before .before .before .wide2 .ensures .0;
+        count = c .before .before .before .wide3 .ensures .0 ∙ c .before .before .before .before .count .ensures;
+        few = c .before .before .before .wide3 .ensures .1;
+        last = omega (arith, c .before .before .if1 .left);
+      },
+      omega arith,
+      pass-begun (row-start _ _ _ (c .before .before .before .wide3 .ensures .0 ∙ c .before .before .before .before .count .ensures) (λ q. omega arith) (carried-uncounted (omega (arith, c .before .before .before .before .before .before .wide16 .ensures)) (pre .carried)))
+          (c .before .if2 .left) (c .before .before .before .before .before .before .before .wide .ensures .0) (c .before .before .before .before .before .wide2 .ensures .0) (c .pass-start .ensures),
+    )
+
+depth-requires : tie.Need-depth-requires Inv-loop μ-loop
+depth-requires c κs =
+    let at = c .before in
+    let pre = at .before .before .before .before .before .before .before .before .before .before .before .before .pre in
+    let named = at .loop .inv .0 in
+    (pre .within, named-few named (pre .few) (omega (arith, c .loop-test .taken)))
+
+wide-requires-4 : tie.Need-wide-requires-4 Inv-loop μ-loop
+wide-requires-4 c κs = search needs
+
+pointer-requires : tie.Need-pointer-requires Inv-loop μ-loop
+pointer-requires c κs =
+    let at = c .before .before .before in
+    let pre = at .before .before .before .before .before .before .before .before .before .before .before .before .pre in
+    let named = at .loop .inv .0 in
+    (pre .within, named-few named (pre .few) (omega (arith, c .before .before .loop-test .taken)))
+
+pass-entry-requires : tie.Need-pass-entry-requires Inv-loop μ-loop
+pass-entry-requires c κs =
+    let at = c .before .before .before .before in
+    let pre = at .before .before .before .before .before .before .before .before .before .before .before .before .pre in
+    let named = at .loop .inv .0 in
+    pass-pre (at .loop .inv .2) (named .width) (pre .width) (omega (arith, named .few, named .last, c .before .before .before .loop-test .taken)) (rw (named .width) (pre .register))
+
+returns-3 : tie.Need-returns-3 Inv-loop μ-loop
+returns-3 c =
+    let at = c .before .before .before .before .before .before .before in
+    let pre = at .before .before .before .before .before .before .before .before .before .before .before .before .pre in
+    let named = at .loop .inv .0 in
+    pass-stops (at .loop .inv .2) (omega (arith, named .last, c .before .before .before .before .before .before .loop-test .taken)) (named .width) (named .close) (c .before .before .before .before .wide4 .ensures .0 ∙ c .before .before .before .before .before .depth .ensures) (c .before .before .before .pointer .ensures .0) (c .before .before .pass-entry .ensures)
+    (not-true _ (c .if3 .taken)) (omega (arith, named .held, named .low)) _ refl
 
 add-i : tie.Need-add-i Inv-loop μ-loop
 add-i c = search needs
@@ -67,28 +99,66 @@ loop-less : tie.Need-loop-less Inv-loop μ-loop
 loop-less c = search needs
 
 loop-again : tie.Need-loop-again Inv-loop μ-loop
-loop-again c = (omega (arith, c .before .before .before .before .before .before .before .before .loop-test .taken), omega (arith, c .before .before .before .before .before .before .before .before .before .loop .inv .1, c .before .before .before .scan-inner .ensures .2), c .before .before .before .scan-inner .ensures .1, row-more (c .before .before .before .before .before .before .before .before .before .loop .inv .3) (omega (arith, c .before .before .before .before .before .before .before .before .loop-test .taken)) (leaf-sound _ _ _ _ _ (c .before .before .before .before .before .before .before .before .before .before .before .before .before .before .before .wide .ensures .0) refl (c .before .before .before .before .wide3 .ensures .0 ∙ c .before .before .before .before .before .before .before .depth .ensures) (c .before .before .before .before .before .pointer .ensures .0) (c .before .before .before .scan-inner .ensures .0)) (not-false _ (c .before .if4 .left)) _ (c .before .before .before .before .before .before .before .depth .ensures) (rw (ne-eqb (c .before .before .before .before .before .before .before .before .before .loop .i + 1) (c .before .before .before .before .before .before .before .before .before .before .before .before .wide2 .result) (omega (arith, c .before .before .before .before .before .before .before .before .loop-test .taken))) (lt-ltb _ _ (c .before .before .before .before .before .before .if3 .left))) [] (leaf-marks _ _))
+loop-again c =
+    let at = c .before .before .before .before .before .before .before in
+    let pre = at .before .before .before .before .before .before .before .before .before .before .before .before .pre in
+    let named = at .loop .inv .0 in (
+      named,
+      omega (arith, c .before .before .before .before .before .before .loop-test .taken),
+      pass-goes (at .loop .inv .2) (omega (arith, named .last, c .before .before .before .before .before .before .loop-test .taken)) (named .width) (named .close) (c .before .before .before .before .wide4 .ensures .0 ∙ c .before .before .before .before .before .depth .ensures) (c .before .before .before .pointer .ensures .0) (c .before .before .pass-entry .ensures)
+          (not-false _ (c .if3 .left)) (omega (arith, pre .carried .live, named .held, named .low, named .few, named .last, c .before .before .before .before .before .before .loop-test .taken)),
+    )
 
-returns-5 : tie.Need-returns-5 Inv-loop μ-loop
-returns-5 c = too-many-live (c .before .before .before .loop .inv .3) (omega (arith, c .if5 .taken, c .before .before .before .before .before .before .before .before .wide16 .ensures)) _ refl
+scan-behind-requires : tie.Need-scan-behind-requires Inv-loop μ-loop
+scan-behind-requires c κs =
+    let at = c .before in
+    let pre = at .before .before .before .before .before .before .before .before .before .before .before .before .pre in
+    let named = at .loop .inv .0 in
+    (pre .within, omega (arith, named-few named (pre .few) (at .loop .inv .1)), omega (arith, pre .carried .live, named .held, named .low), at .loop .inv .2 .few)
+
+returns-4 : tie.Need-returns-4 Inv-loop μ-loop
+returns-4 c =
+    let at = c .before .before .before .before in
+    let named = at .loop .inv .0 in
+    too-many-live (pass-ends (at .loop .inv .2) (named .close) (c .before .before .scan-behind .ensures)) (omega (arith, c .if4 .taken, named .held)) _ refl
 
 depth-requires-2 : tie.Need-depth-requires-2 Inv-loop μ-loop
-depth-requires-2 c κs = (c .before .before .before .before .before .before .before .before .before .before .before .before .before .pre .within, entry-few (c .before .before .before .before .before .before .before .before .before .before .before .before .before .args .h) (c .before .before .before .before .before .before .before .before .before .before .before .before .before .args .index .now) (c .before .before .before .before .before .before .before .before .before .before .before .before .before .args .page .0) _ _ (c .before .before .before .before .before .before .wide2 .ensures .0 ∙ c .before .before .before .before .before .before .before .count .ensures) (c .before .before .before .before .before .before .before .before .before .before .before .before .before .pre .few) (omega (arith, c .before .before .before .loop .inv .0, c .before .before .before .before .before .if1 .left)))
+depth-requires-2 c κs =
+    let at = c .before .before .before .before in
+    let pre = at .before .before .before .before .before .before .before .before .before .before .before .before .pre in
+    let named = at .loop .inv .0 in
+    (pre .within, named-few named (pre .few) (omega (arith, at .loop .inv .1)))
 
-returns-6 : tie.Need-returns-6 Inv-loop μ-loop
-returns-6 c = row-depth (turn-counted (c .before .before .before .before .before .loop .inv .3) (omega (arith, c .before .before .before .before .before .before .before .before .before .before .wide16 .ensures)) (omega (arith, c .before .before .if5 .left, c .before .before .before .before .before .before .before .before .before .before .wide16 .ensures))) (omega (arith, c .before .before .before .before .before .loop .inv .0, c .before .before .before .before .before .before .before .if1 .left)) _ (c .before .depth2 .ensures) (rw (eq-eqb (c .before .before .before .before .before .loop .i + 1) (c .before .before .before .before .before .before .before .before .wide2 .result) (omega (arith, c .before .before .before .before .loop-test .left, c .before .before .before .before .before .loop .inv .0, c .before .before .before .before .before .before .before .if1 .left))) (ne-eqb (c .before .depth2 .result) (c .before .before .before .before .before .before .before .before .before .before .before .before .before .before .before .args .c) (λ z. omega (arith, c .if6 .taken)))) _ refl
+returns-5 : tie.Need-returns-5 Inv-loop μ-loop
+returns-5 c =
+    let at = c .before .before .before .before .before .before in
+    let named = at .loop .inv .0 in
+    row-depth (turn-counted (pass-ends (at .loop .inv .2) (named .close) (c .before .before .before .before .scan-behind .ensures)) (omega (arith, named .held, named .low)) (omega (arith, c .before .before .if4 .left, named .held))) (omega (arith, named .last, at .loop .inv .1)) _ (c .before .depth2 .ensures)
+    (rw (eq-eqb (at .loop .i + 1) (at .before .before .before .before .wide3 .result) (omega (arith, named .last, at .loop .inv .1, c .before .before .before .before .before .loop-test .left))) (ne-eqb (c .before .depth2 .result) (at .before .before .before .before .before .before .before .before .before .before .before .before .args .c) (λ z. omega (arith, c .if5 .taken)))) _ refl
 
 pointer-requires-2 : tie.Need-pointer-requires-2 Inv-loop μ-loop
-pointer-requires-2 c κs = (c .before .before .before .before .before .before .before .before .before .before .before .before .before .before .before .pre .within, entry-few (c .before .before .before .before .before .before .before .before .before .before .before .before .before .before .before .args .h) (c .before .before .before .before .before .before .before .before .before .before .before .before .before .before .before .args .index .now) (c .before .before .before .before .before .before .before .before .before .before .before .before .before .before .before .args .page .0) _ _ (c .before .before .before .before .before .before .before .before .wide2 .ensures .0 ∙ c .before .before .before .before .before .before .before .before .before .count .ensures) (c .before .before .before .before .before .before .before .before .before .before .before .before .before .before .before .pre .few) (omega (arith, c .before .before .before .before .before .loop .inv .0, c .before .before .before .before .before .before .before .if1 .left)))
+pointer-requires-2 c κs =
+    let at = c .before .before .before .before .before .before in
+    let pre = at .before .before .before .before .before .before .before .before .before .before .before .before .pre in
+    let named = at .loop .inv .0 in
+    (pre .within, named-few named (pre .few) (omega (arith, at .loop .inv .1)))
 
-wide-requires-4 : tie.Need-wide-requires-4 Inv-loop μ-loop
-wide-requires-4 c κs = search needs
+wide-requires-5 : tie.Need-wide-requires-5 Inv-loop μ-loop
+wide-requires-5 c κs = search needs
 
 scan-entry-requires : tie.Need-scan-entry-requires Inv-loop μ-loop
-scan-entry-requires c κs = (omega (arith, c .before .before .before .before .before .before .before .before .before .before .before .before .before .before .before .before .before .pre .width, c .before .before .before .before .before .before .before .before .before .before .before .before .before .wide .ensures .0), omega (arith, c .before .before .before .before .before .before .before .before .before .before .before .before .wide16 .ensures .1), rw (c .before .before .before .before .before .before .before .before .before .before .before .before .before .wide .ensures .0, c .before .before .before .before .before .before .before .before .before .before .before .before .wide16 .ensures .0) (carried-counted (c .before .before .before .before .before .before .before .loop .inv .3 .turned .carried) (omega (arith, c .before .before .before .before .if5 .left, c .before .before .before .before .before .before .before .before .before .before .before .before .wide16 .ensures))), rw (c .before .before .before .before .before .before .before .before .before .before .before .before .before .wide .ensures .0) (c .before .before .before .before .before .before .before .before .before .before .before .before .before .before .before .before .before .pre .register))
+scan-entry-requires c κs =
+    let at = c .before .before .before .before .before .before .before .before in
+    let pre = at .before .before .before .before .before .before .before .before .before .before .before .before .pre in
+    let named = at .loop .inv .0 in
+    (omega (arith, pre .width, named .width), named .low, rw (named .width, named .held) (carried-counted (pass-ends (at .loop .inv .2) (named .close) (c .before .before .before .before .before .before .scan-behind .ensures) .turned .carried) (omega (arith, c .before .before .before .before .if4 .left, named .held))), rw (named .width) (pre .register))
 
-returns-7 : tie.Need-returns-7 Inv-loop μ-loop
-returns-7 c = leaf-last (turn-counted (c .before .before .before .before .before .before .before .before .loop .inv .3) (omega (arith, c .before .before .before .before .before .before .before .before .before .before .before .before .before .wide16 .ensures)) (omega (arith, c .before .before .before .before .before .if5 .left, c .before .before .before .before .before .before .before .before .before .before .before .before .before .wide16 .ensures))) (omega (arith, c .before .before .before .before .before .before .before .loop-test .left, c .before .before .before .before .before .before .before .before .loop .inv .0, c .before .before .before .before .before .before .before .before .before .before .if1 .left)) _ (c .before .before .before .before .depth2 .ensures) (c .before .before .before .if6 .left) (leaf-sound _ _ _ _ _ (c .before .before .before .before .before .before .before .before .before .before .before .before .before .before .wide .ensures .0) (c .before .before .before .before .before .before .before .before .before .before .before .before .before .wide16 .ensures .0) (c .before .wide4 .ensures .0 ∙ c .before .before .before .before .depth2 .ensures) (c .before .before .pointer2 .ensures .0) (c .scan-entry .ensures))
+returns-6 : tie.Need-returns-6 Inv-loop μ-loop
+returns-6 c =
+    let at = c .before .before .before .before .before .before .before .before .before in
+    let named = at .loop .inv .0 in
+    leaf-last (turn-counted (pass-ends (at .loop .inv .2) (named .close) (c .before .before .before .before .before .before .before .scan-behind .ensures)) (omega (arith, named .held, named .low)) (omega (arith, c .before .before .before .before .before .if4 .left, named .held))) (omega (arith, named .last, at .loop .inv .1, c .before .before .before .before .before .before .before .before .loop-test .left)) _ (c .before .before .before .before .depth2 .ensures) (c .before .before .before .if5 .left)
+    (leaf-sound _ _ _ _ _ (named .width) (named .held) (c .before .wide5 .ensures .0 ∙ c .before .before .before .before .depth2 .ensures) (c .before .before .pointer2 .ensures .0) (c .scan-entry .ensures))
 
 pub scan-leaves-spec : {M : Type 1} → statement M
 scan-leaves-spec =
@@ -98,25 +168,27 @@ scan-leaves-spec =
     μ-loop
     wide-requires
     wide16-requires
-    count-requires
     wide-requires-2
+    count-requires
+    wide-requires-3
     returns
     returns-2
     sub-last
+    pass-start-requires
     loop-holds
     depth-requires
-    returns-3
+    wide-requires-4
     pointer-requires
-    wide-requires-3
-    scan-inner-requires
-    returns-4
+    pass-entry-requires
+    returns-3
     add-i
     loop-less
     loop-again
-    returns-5
+    scan-behind-requires
+    returns-4
     depth-requires-2
-    returns-6
+    returns-5
     pointer-requires-2
-    wide-requires-4
+    wide-requires-5
     scan-entry-requires
-    returns-7)
+    returns-6)
