@@ -10,13 +10,13 @@ ghost use Rattle.leaf_list.specs.Conditions.{pointerFits, entryFits};
 ghost use Rattle.index_table.specs.Pages.{recordOf};
 ghost use Rattle.table_check.specs.Walks.{countless, NarrowRegister, Carried, Scanned};
 
-// What the check carries from entry to entry, and from page to page: the discriminator and the depth of the last entry, whether it was
-// a dummy, how many were live, and whether the last one closed the list.
+// What the check carries from page to page: the discriminator and the depth of the last entry, how many were live, whether the last was
+// a dummy, and whether it closed the list.
 pub struct Scan {
     pub disc: u64,
     pub trail: u64,
-    pub dummy: bool,
     pub live: u64,
+    pub dummy: bool,
     pub closed: bool,
 }
 

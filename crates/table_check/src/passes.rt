@@ -15,8 +15,8 @@ use index_table::header::Index;
 use index_table::layout::PageNo;
 use leaf_list::bit;
 
-// What a pass carries from entry to entry: whether all fitted, the discriminator, all bits behind the depth of the last entry, a depth below
-// that of the next, and how many were dummies.
+// What a pass carries from entry to entry: whether all fitted, the discriminator, all bits behind the depth of the last entry, a depth that
+// the next must be above, and how many were dummies.
 pub struct Pass {
     pub ok: bool,
     pub disc: u64,
@@ -32,7 +32,7 @@ fn bits_behind(w: u64, t: u64) -> u64
 {
     let n = w - t;
     if n == 64 {
-        return 18446744073709551615;
+        return u64::MAX;
     }
     (1u64 << n) - 1
 }
