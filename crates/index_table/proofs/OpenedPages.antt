@@ -1,13 +1,12 @@
 -- Bytes moved up in a page, and a row written into the room (01, "Pages"). Assumes nothing.
-use mathlib.Core.Path.{_≡_, refl, sym, ap, ap₂, subst, _∙_}
+use mathlib.Core.Path.{_≡_, refl, sym, ap, ap₂, _∙_}
 use mathlib.Core.List.{List, [], _∷_, _++_, append-assoc}
 use Prim.Native.Nat.{ℕ, zero, suc, _+_, _*_, _-_, _≤_, _<_, _/_, _%_}
 use native.Mathlib.Omega.{arith}
-use native.Mathlib.Numerals.{add-one}
-use lib.ListN.{length, getD, take, drop, set, replicate, length-set, length-take, length-drop, length-append, length-replicate, take-append-drop}
-use lib.Seq.{sets, sets-eq, set-comm, set-set, set-getD, drop-cons, take-take, drop-drop, take-add, take-at, drop-at, split-at, take-append-add, drop-append-add, length-take-le}
-use Rattle.index_table.specs.Bytes.{AllZero, number, numberAfter, over, table}
-use Rattle.index_table.specs.Layout.{Layout, layoutOf, Ref, pageSize, pageStart, Within, pageBytes, levelOf, countOf, firstRef, refAt, refsOf, refBytes, rowBytes, pageOf, rowPage, store}
+use lib.ListN.{length, getD, take, drop, set, replicate, length-set, length-drop, length-append, length-replicate, take-append-drop}
+use lib.Seq.{sets, sets-eq, set-comm, set-set, set-getD, drop-cons, take-take, drop-drop, take-add, take-at, drop-at, split-at, drop-append-add, length-take-le}
+use Rattle.index_table.specs.Bytes.{numberAfter, over, table}
+use Rattle.index_table.specs.Layout.{Layout, layoutOf, Ref, pageSize, pageStart, pageBytes, levelOf, countOf, firstRef, refAt, refsOf, refBytes, rowBytes, pageOf, rowPage, store}
 use Rattle.index_table.specs.Pages.{pagesAt}
 use Rattle.index_table.specs.Soundness.{Cleared}
 use Rattle.index_table.specs.Storing.{Openable, Opened, splicedAt}

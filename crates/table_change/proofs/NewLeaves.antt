@@ -9,10 +9,10 @@ use native.Mathlib.Omega.{arith}
 use lib.Dec.{ltb}
 use lib.ListN.{length, length-append, length-map}
 use borrow.Author.Tests.{lt-ltb, le-ltb}
-use Rattle.leaf_list.specs.Keys.{Key, bits, below, firstDifference}
+use Rattle.leaf_list.specs.Keys.{bits, below, firstDifference}
 use Rattle.leaf_list.specs.Entries.{Entry, entry}
 use Rattle.leaf_list.specs.Search.{positions}
-use Rattle.leaf_list.specs.Insertion.{leafDepth, dummies, bothLeaves, insertAt}
+use Rattle.leaf_list.specs.Insertion.{leafDepth, dummies, bothLeaves}
 use Rattle.leaf_list.specs.Register.{keyAt}
 use Rattle.leaf_list.proofs.Bits.{below-bits}
 use Rattle.page_tree.specs.Rows.{All}

@@ -1,9 +1,9 @@
 -- New entries written one behind the other, and as a row. Assumes nothing.
-use mathlib.Core.Path.{_≡_, refl, sym, ap, ap₂, _∙_}
+use mathlib.Core.Path.{_≡_, sym, ap, ap₂, _∙_}
 use mathlib.Core.Bool.{Bool, true, false, cond}
 use mathlib.Core.Option.{some}
 use mathlib.Core.List.{List, [], _∷_, _++_, map, append-assoc, append-nil}
-use Prim.Native.Nat.{ℕ, _+_, _*_, _≤_, _<_}
+use Prim.Native.Nat.{ℕ, _+_, _*_}
 use native.Mathlib.Omega.{arith}
 use lib.ListN.{length, length-append, length-map}
 use Rattle.leaf_list.specs.Keys.{bits}
@@ -17,7 +17,7 @@ use Rattle.index_table.specs.Layout.{Ref, refBytes, rowBytes}
 use Rattle.index_table.proofs.ListLaws.{over-append}
 use Rattle.index_table.proofs.PageRows.{length-ref-bytes, length-row-bytes, row-bytes-append}
 use Rattle.table_change.specs.declared.entries.News.{News}
-use Rattle.table_change.specs.Entries.{refOf, entriesFor, refsFor, Newly}
+use Rattle.table_change.specs.Entries.{refOf, refsFor, Newly}
 use Rattle.table_change.proofs.NewLeaves.{pair-refs, news-long}
 
 module _ (w key : ℕ) (n : News) where

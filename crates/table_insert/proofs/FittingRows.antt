@@ -7,23 +7,20 @@ use lib.ListN.{length, getD, take, drop, replicate, length-map, length-append, l
 use lib.Seq.{length-take-le}
 use Rattle.leaf_list.specs.Keys.{bits}
 use Rattle.leaf_list.specs.Search.{positions}
-use Rattle.leaf_list.proofs.Lists.{all-append}
-use Rattle.page_tree.specs.Rows.{All, Closed, lastDepth}
+use Rattle.page_tree.specs.Rows.{lastDepth}
 use Rattle.page_tree.specs.Tree.{Node, Tree, depth, pagesOf}
 use Rattle.page_tree.specs.Cutting.{parts}
 use Rattle.page_tree.specs.OnPages.{Replacement, replaceIn, insertBelow, pagesBelow, grown, insertTree}
 use Rattle.page_tree.specs.Row.{depthOf, places, rowOf, Holds}
 use Rattle.page_tree.specs.declared.Row.{Row}
-use Rattle.page_tree.proofs.ListLaws.{all-left, all-right}
 use Rattle.page_tree.proofs.CuttingLaws.{cut-fits}
 use Rattle.page_tree.proofs.Growing.{pagesAbove}
 use Rattle.page_tree.proofs.InsertionPages.{insertTree-pages}
 use Rattle.page_tree.proofs.RowLaws.{Full}
-use Rattle.index_table.specs.Layout.{Layout, layoutOf, Ref, pageBytes, Fitting, rowPage, store}
-use Rattle.index_table.specs.Pages.{pagesAt, leafOf, nodeAt, treeAt, usedPages}
+use Rattle.index_table.specs.Layout.{Layout, layoutOf, Ref, Fitting, rowPage, store}
+use Rattle.index_table.specs.Pages.{pagesAt, leafOf, nodeAt, treeAt}
 use Rattle.index_table.specs.Standing.{TreeTable}
 use Rattle.index_table.specs.Storing.{newLeaves, splicedAt, rowWith}
-use Rattle.index_table.specs.declared.layout.Root.{Root}
 use Rattle.index_table.proofs.PageBytes.{within-table}
 use Rattle.index_table.proofs.Frames.{stored-refs}
 use Rattle.index_table.proofs.LoadedRows.{row-with}
@@ -37,7 +34,7 @@ use Rattle.table_search.proofs.Descents.{descend-walk, descend-child}
 use Rattle.table_insert.specs.Placing.{Placed, PlacePost}
 use Rattle.table_insert.specs.Inserting.{pageRef, Replaced, InsertPre}
 use Rattle.table_insert.specs.Putting.{PutPre, PutPost}
-use Rattle.table_insert.proofs.FoundPlaces.{found-parted, found-before, found-replaced}
+use Rattle.table_insert.proofs.FoundPlaces.{found-before, found-replaced}
 use Rattle.table_insert.proofs.PlacedRows.{free-none, own-then-free}
 use Rattle.table_insert.proofs.Insertions.{leaf-replaced, child-insert, child-replaced, alone-done, insert-place, insert-done}
 use Rattle.table_insert.proofs.RootSteps.{root-alone}

@@ -1,6 +1,5 @@
 -- The loop's invariant: the bytes from place i on are moved. Assumes nothing.
 use Rattle.index_table.proofs.OpenedPages.{Moved, moved-none, moved-more, moved-all}
-use native.Mathlib.Omega.{arith}
 use borrow.Author.Needs.{needs}
 use Rattle.index_table.proofs.open.move_up.Statement.{statement}
 use Rattle.index_table.proofs.open.move_up.Tie as tie

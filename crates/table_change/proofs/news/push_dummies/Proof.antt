@@ -1,7 +1,7 @@
 -- The dummies between two depths. Assumes nothing.
 use borrow.Author.Needs.{needs}
 use native.Mathlib.Omega.{arith}
-use Prim.Native.Nat.{ℕ, suc, _+_, _-_, _≤_, _<_, _^_}
+use Prim.Native.Nat.{suc, _-_, _≤_, _<_, _^_}
 use lib.ListN.{take}
 use Rattle.page_tree.specs.Row.{places}
 use Rattle.table_change.proofs.Dummies.{Dummying, dummying-none, dummying-more, dummying-all, dummying-few}

@@ -1,6 +1,4 @@
 -- The count and the entries of a page, compared. Assumes nothing.
-use mathlib.Core.Path.{sym, ap₂, _∙_}
-use native.Mathlib.Omega.{arith}
 use Rattle.table_change.proofs.Opening.{room-tested}
 use borrow.Author.Needs.{needs}
 use Rattle.table_change.proofs.pages.has_room.Statement.{statement}
