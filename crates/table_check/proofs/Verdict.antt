@@ -1,11 +1,12 @@
 -- The parts that the check asks one after the other make the tables sound, and sound tables have them. Assumes nothing.
 use mathlib.Core.Path.{_≡_, refl, sym, subst, _∙_}
-use mathlib.Core.Logic.{_↔_}
+use mathlib.Core.Logic.{_↔_, _⊎_, inl, inr}
 use mathlib.Core.Bool.{Bool, true, false, true≢false}
 use mathlib.Core.List.{List}
 use Prim.Native.Nat.{ℕ, _^_, _<_}
+use native.Mathlib.Omega.{arith}
 use lib.Dec.{ltb}
-use lib.ListN.{length, getD}
+use lib.ListN.{length, getD, List·getD-eq-default}
 use borrow.Author.Tests.{eqb-true, eq-eqb, ltb-true, ltb-false}
 use Rattle.leaf_list.specs.Herd.{Sorted}
 use Rattle.leaf_list.specs.LeafList.{leafList}
@@ -30,6 +31,18 @@ narrow-records w keys used s r u = go (ltb r (length used)) refl
     go : (t : Bool) → ltb r (length used) ≡ t → keyAt keys r < 2 ^ w
     go true e = s r (ltb-true r (length used) e) .narrow (eqb-true (getD used r 0) 1 u)
     go false e = absurd (true≢false (sym u ∙ beyond-free used r (ltb-false r (length used) e)))
+
+-- The key of a free record is 0.
+pub free-records : (w : ℕ) (keys used : List ℕ) → length keys ≡ length used → SoundRecords w keys used → (r : ℕ) → inUse used r ≡ false → keyAt keys r ≡ 0
+free-records w keys used long s r u = go (ltb r (length used)) refl
+  where
+    byte : (getD used r 0 ≡ 0) ⊎ (getD used r 0 ≡ 1) → getD used r 0 ≡ 0
+    byte (inl e) = e
+    byte (inr e) = absurd (true≢false (sym (eq-eqb (getD used r 0) 1 e) ∙ u))
+
+    go : (t : Bool) → ltb r (length used) ≡ t → keyAt keys r ≡ 0
+    go true e = let a = s r (ltb-true r (length used) e) in a .free (byte (a .byte))
+    go false e = List·getD-eq-default keys 0 (omega (arith, long, ltb-false r (length used) e))
 
 -- "No two records in use have one key", as soundness and as the leaf list has it.
 pub distinct-keys : (keys used : List ℕ) → ((r s : ℕ) → getD used r 0 ≡ 1 → getD used s 0 ≡ 1 → getD keys r 0 ≡ getD keys s 0 → r ≡ s) ↔ Sorted (herdOf keys used)
@@ -70,7 +83,7 @@ module _ (index keys used : List ℕ) where
   -- Once the header and the records are in order and the records held are counted, the pages decide.
   module _ (long : length keys ≡ length used) (header : HeaderFits index (length used)) (records : SoundRecords (widthOf index) keys used) where
     read-pre : TreePre (indexOf index) index keys used
-    read-pre = record { table = header .table; width = header .limits .width-high; register = record { long = long; narrow = narrow-records (widthOf index) keys used records } }
+    read-pre = record { table = header .table; width = header .limits .width-high; register = record { long = long; few = header .limits .records-high; narrow = narrow-records (widthOf index) keys used records; free = free-records (widthOf index) keys used long records } }
 
     read-sound : heldOf index ≡ countInUse used → PagesSound (indexOf index) index keys used ↔ Sound index keys used
     read-sound held = (

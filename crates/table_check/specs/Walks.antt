@@ -1,6 +1,6 @@
 -- What the check of the pages says. Assumes nothing.
 use mathlib.Core.Path.{_≡_}
-use mathlib.Core.Bool.{Bool, true}
+use mathlib.Core.Bool.{Bool, true, false}
 use mathlib.Core.Logic.{_↔_}
 use mathlib.Core.List.{List, [], _∷_, map}
 use Prim.Native.Nat.{ℕ, _+_, _≤_, _<_, _^_}
@@ -17,10 +17,12 @@ use Rattle.index_table.specs.declared.header.Index.{Index}
 use Rattle.table_check.specs.declared.entries.Scan.{Scan}
 use Rattle.table_check.specs.declared.entries.Checked.{Checked}
 
--- The register's slices are equally long, and no record in use has a key of more than w bits.
+-- The register's slices are equally long, and shorter than NIL; no record in use has a key of more than w bits, and a free one has key 0.
 pub record NarrowRegister (w : ℕ) (keys used : List ℕ) : Type 0 where
   pub long : length keys ≡ length used
+  pub few : length used ≤ 65534
   pub narrow : (r : ℕ) → inUse used r ≡ true → keyAt keys r < 2 ^ w
+  pub free : (r : ℕ) → inUse used r ≡ false → keyAt keys r ≡ 0
 
 -- What the code carries, as the state of the conditions: every entry so far fitted.
 abbrev pub stateOf : Scan → State

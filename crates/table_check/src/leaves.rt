@@ -45,18 +45,23 @@ pub fn scan_leaves(
         return Checked { ok: false, scan: s };
     }
     let last = n - 1;
+    let most = crate::passes::depths_above(w, close);
     let mut pass = crate::passes::pass_start(w, close, s);
+    let first = index_table::layout::pointer(index, h.entries, page, 0);
+    if !crate::passes::record_told(used, pass.disc, pass.low, first) {
+        return Checked { ok: false, scan: s };
+    }
     let mut i: usize = 0;
     while i < last {
         let d = wide(index_table::layout::depth(index, h.entries, page, i));
         let p = index_table::layout::pointer(index, h.entries, page, i);
-        pass = crate::passes::pass_entry(w, keys, used, close, pass, d, p);
+        pass = crate::passes::pass_entry(w, keys, most, pass, d, p);
         if !pass.ok {
             return Checked { ok: false, scan: s };
         }
         i += 1;
     }
-    let scan = crate::passes::scan_behind(index, h, page, close, s, i, pass);
+    let scan = crate::passes::scan_behind(index, h, page, most, s, i, pass);
     if held < scan.live {
         return Checked { ok: false, scan: s };
     }
