@@ -57,17 +57,17 @@ pub fn scan_leaves(
         let p = index_table::layout::pointer(index, h.entries, page, i);
         pass = crate::passes::pass_entry(w, keys, most, pass, d, p);
         if !pass.ok {
-            return Checked { ok: false, scan: s };
+            return crate::passes::refused(pass);
         }
         i += 1;
     }
     let scan = crate::passes::scan_behind(index, h, page, most, s, i, pass);
     if held < scan.live {
-        return Checked { ok: false, scan: s };
+        return Checked { ok: false, scan };
     }
     let d = index_table::layout::depth(index, h.entries, page, i);
     if d != c {
-        return Checked { ok: false, scan: s };
+        return Checked { ok: false, scan };
     }
     let p = index_table::layout::pointer(index, h.entries, page, i);
     crate::entries::scan_entry(w, keys, used, held, scan, wide(d), p)

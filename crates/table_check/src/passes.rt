@@ -1,12 +1,13 @@
 // One pass over the entries of a page of level 0 but the last.
 ghost use mathlib.Core.Path.{_≡_};
-ghost use mathlib.Core.Bool.{cond, not, _&&_};
+ghost use mathlib.Core.Bool.{false, cond, not, _&&_};
 ghost use Prim.Native.Nat.{suc, _-_, _≤_, _<_, _^_, max};
 ghost use lib.Bits.{bitXor};
 ghost use lib.Dec.{leb, ltb};
 ghost use Rattle.leaf_list.specs.Keys.{bitAt};
 ghost use Rattle.index_table.specs.Layout.{Within, layoutOf};
 ghost use Rattle.table_check.specs.Passes.{Begun, PassPre, told, Passed, scanBehind};
+use crate::entries::Checked;
 use crate::entries::Scan;
 use crate::numbers::wide;
 use index_table::header::Index;
@@ -138,7 +139,7 @@ pub fn pass_entry(w: u64, keys: &[u64], most: u64, s: Pass, d: u64, p: u32) -> P
             dummies: s.dummies,
         };
     }
-    if p != 65535 {
+    if r != 65535 {
         return Pass {
             ok: false,
             disc,
@@ -153,6 +154,22 @@ pub fn pass_entry(w: u64, keys: &[u64], most: u64, s: Pass, d: u64, p: u32) -> P
         low: below,
         room: w - d,
         dummies: s.dummies + 1,
+    }
+}
+
+// The refusal of a page; it says nothing of what is carried, and is made of what the pass has at hand.
+pub fn refused(pass: Pass) -> Checked
+    ensures { λ r. ⌜ r .ok ≡ false ⌝ }
+{
+    Checked {
+        ok: false,
+        scan: Scan {
+            disc: pass.disc,
+            trail: pass.low,
+            live: pass.dummies,
+            dummy: false,
+            closed: false,
+        },
     }
 }
 

@@ -104,13 +104,16 @@ pass-entry-requires c κs =
     let named = at .loop .inv .0 in
     pass-pre (at .loop .inv .2) (named .width) (pre .width) (omega (arith, named .few, named .last, c .before .before .before .loop-test .taken))
 
+refused-requires : tie.Need-refused-requires Inv-loop μ-loop
+refused-requires c κs = search needs
+
 returns-4 : tie.Need-returns-4 Inv-loop μ-loop
 returns-4 c =
-    let at = c .before .before .before .before .before .before .before in
+    let at = c .before .before .before .before .before .before .before .before in
     let pre = at .before .before .before .before .before .before .before .before .before .before .before .before .before .before .before .before .pre in
     let named = at .loop .inv .0 in
-    pass-stops (at .loop .inv .2) (omega (arith, named .last, c .before .before .before .before .before .before .loop-test .taken)) (named .width) (named .most) (c .before .before .before .before .wide4 .ensures .0 ∙ c .before .before .before .before .before .depth .ensures) (c .before .before .before .pointer2 .ensures .0) (c .before .before .pass-entry .ensures) (pre .register)
-    (not-true _ (c .if4 .taken)) (omega (arith, named .held, named .low)) _ refl
+    pass-stops (at .loop .inv .2) (omega (arith, named .last, c .before .before .before .before .before .before .before .loop-test .taken)) (named .width) (named .most) (c .before .before .before .before .before .wide4 .ensures .0 ∙ c .before .before .before .before .before .before .depth .ensures) (c .before .before .before .before .pointer2 .ensures .0) (c .before .before .before .pass-entry .ensures) (pre .register)
+    (not-true _ (c .before .if4 .taken)) (omega (arith, named .held, named .low)) _ (c .refused .ensures)
 
 add-i : tie.Need-add-i Inv-loop μ-loop
 add-i c = search needs
@@ -204,6 +207,7 @@ scan-leaves-spec =
     wide-requires-4
     pointer-requires-2
     pass-entry-requires
+    refused-requires
     returns-4
     add-i
     loop-less
