@@ -19,6 +19,10 @@ use Rattle.table_check.specs.declared.register.Tally.{Tally}
 abbrev pub ZeroBetween : ℕ → ℕ → List ℕ → Type 0
 ZeroBetween from to bytes = (k : ℕ) → from ≤ k → k < to → getD bytes k 0 ≡ 0
 
+-- The first n bytes are 0 or 1.
+abbrev pub SmallBytes : ℕ → List ℕ → Type 0
+SmallBytes n bytes = (k : ℕ) → k < n → getD bytes k 0 ≤ 1
+
 -- Every record is sound by itself.
 abbrev pub SoundRecords : ℕ → List ℕ → List ℕ → Type 0
 SoundRecords w keys used = (r : ℕ) → r < length used → SoundRecord w (getD keys r 0) (getD used r 0)

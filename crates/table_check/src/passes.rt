@@ -157,16 +157,17 @@ pub fn pass_entry(w: u64, keys: &[u64], most: u64, s: Pass, d: u64, p: u32) -> P
     }
 }
 
-// The refusal of a page; it says nothing of what is carried, and is made of what the pass has at hand.
+// The refusal of a page; it says nothing of what is carried, and keeps no more of the pass than one number.
 pub fn refused(pass: Pass) -> Checked
     ensures { λ r. ⌜ r .ok ≡ false ⌝ }
 {
+    let n = pass.dummies;
     Checked {
         ok: false,
         scan: Scan {
-            disc: pass.disc,
-            trail: pass.low,
-            live: pass.dummies,
+            disc: n,
+            trail: n,
+            live: n,
             dummy: false,
             closed: false,
         },
