@@ -113,19 +113,26 @@ fn key_fits(key: u64, disc: u64, low: u64, below: u64) -> bool
     x <= low
 }
 
+// A pass that stops at an entry.
+fn stopped(s: Pass) -> Pass
+    ensures { λ r. ⌜ r .ok ≡ false ⌝ }
+{
+    Pass {
+        ok: false,
+        disc: s.disc,
+        low: s.low,
+        room: s.room,
+        dummies: s.dummies,
+    }
+}
+
 // One entry behind what is carried, in a page whose last depth has `most` depths above it.
 pub fn pass_entry(w: u64, keys: &[u64], most: u64, s: Pass, d: u64, p: u32) -> Pass
     requires { ⌜ PassPre w s ⌝ }
     ensures { λ r. ⌜ Passed w (now (keys .entry)) most s d p r ⌝ }
 {
     if !depth_fits(w, s.disc, s.room, d) {
-        return Pass {
-            ok: false,
-            disc: s.disc,
-            low: s.low,
-            room: s.room,
-            dummies: s.dummies,
-        };
+        return stopped(s);
     }
     let below = bit(w, d) - 1;
     let disc = (s.disc | below) + 1;

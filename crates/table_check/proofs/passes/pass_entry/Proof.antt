@@ -19,10 +19,13 @@ under b n e = omega (arith, pow-pos n)
 depth-fits-requires : tie.Need-depth-fits-requires
 depth-fits-requires c κs = (c .before .pre .width, c .before .pre .room)
 
+stopped-requires : tie.Need-stopped-requires
+stopped-requires c κs = search needs
+
 returns : tie.Need-returns
 returns c =
-    let a = c .before .before .before .args in
-    λ used g q k e τ dummy m. pass-refused (a .w) (a .keys .now) used k (a .s) (a .d) (a .p) (sym (c .before .depth-fits .ensures) ∙ not-true _ (c .if1 .taken)) τ dummy m _ refl
+    let a = c .before .before .before .before .args in
+    λ used g q k e τ dummy m. pass-refused (a .w) (a .keys .now) used k (a .s) (a .d) (a .p) (sym (c .before .before .depth-fits .ensures) ∙ not-true _ (c .before .if1 .taken)) τ dummy m _ (c .stopped .ensures)
 
 bit-requires : tie.Need-bit-requires
 bit-requires c κs =
@@ -100,6 +103,7 @@ pass-entry-spec =
     tie.close
     (tie.spec
     depth-fits-requires
+    stopped-requires
     returns
     bit-requires
     sub-below
