@@ -1,4 +1,5 @@
 pub mod EntryTurns
+pub mod CalmRows
 pub mod Following
 pub mod FoundPlaces
 pub mod Frames

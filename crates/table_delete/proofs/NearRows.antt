@@ -12,6 +12,7 @@ use borrow.Author.Tests.{lt-ltb, le-ltb}
 use Rattle.leaf_list.specs.Entries.{Entry, entry}
 use Rattle.leaf_list.proofs.Lists.{all-append}
 use Rattle.page_tree.specs.Rows.{lastDepth}
+use Rattle.page_tree.specs.declared.Unwind.{Unwind}
 use Rattle.page_tree.specs.declared.Unwind.the-variants.{Idle, Give, Clear}
 use Rattle.page_tree.specs.OffPages.{Left, stepEntry, sweep}
 use Rattle.page_tree.proofs.ListLaws.{all-left, all-right}
@@ -22,7 +23,7 @@ use Rattle.index_table.specs.Changing.{WholePage, withRow, without}
 use Rattle.index_table.proofs.PageRows.{length-refs, getD-refs, take-refs}
 use Rattle.index_table.proofs.PageChanges.{row-read, row-whole, row-again}
 use Rattle.table_delete.specs.Keeping.{depthOf}
-use Rattle.table_delete.specs.OnePage.{leafRow, Staying, NearPre, FollowedPre, NearDone, NearPost, struckAt, StrikePost}
+use Rattle.table_delete.specs.OnePage.{leafRow, Calm, askedBefore, Staying, NearPre, FollowedPre, NearDone, NearPost, struckAt, StrikePost}
 use Rattle.table_delete.proofs.RowChanges.{drop-set}
 use Rattle.table_delete.proofs.StayingEntries.{sweep-last, idle-leaves}
 
@@ -30,11 +31,11 @@ true-false : _≡_ {A = Bool} true false → ⊥
 true-false y = absurd (let z : _≡_ {A = ℕ} 1 0 = ap (λ (t : Bool). cond t 1 0) y in omega arith)
 
 -- Nothing is changed.
-pub near-none : {e : ℕ} {b : List ℕ} {page at : ℕ} {o : Left Entry} → NearPost e b page at o b false
+pub near-none : {e : ℕ} {b : List ℕ} {page at τ₀ : ℕ} {o : Left Entry} → NearPost e b page at τ₀ o b false
 near-none = record { done = λ y. absurd (true-false (sym y)); none = λ y. refl }
 
 -- The row is left.
-pub near-some : {e : ℕ} {b : List ℕ} {page at : ℕ} {o : Left Entry} {b′ : List ℕ} → NearDone e b page at o b′ → NearPost e b page at o b′ true
+pub near-some : {e : ℕ} {b : List ℕ} {page at τ₀ : ℕ} {o : Left Entry} {b′ : List ℕ} → NearDone e b page at τ₀ o b′ → NearPost e b page at τ₀ o b′ true
 near-some h = record { done = λ y. h; none = λ y. absurd (true-false y) }
 
 -- The last depth is that of the entries behind.
@@ -55,11 +56,13 @@ module _ {e : ℕ} {b : List ℕ} {page at : ℕ} (h : NearPre e b page at) wher
   behind-fits = all-right (λ (x : Ref). x .1 < 65536) (take (suc at) old) behind (rw (take-append-drop (suc at) old) (h .fitting))
 
   -- The entries that are kept before the place, and those behind it.
-  near-done : suc at < length old → (o : Left Entry) (kept : List Ref) → length kept ≤ suc at → Fitting 2 kept
-      → sweep stepEntry (o .1) (leafRow (take at old)) (o .0 ++ leafRow behind) ≡ (leafRow kept ++ leafRow behind, Idle)
-      → (b′ : List ℕ) → b′ ≡ withRow e b page (kept ++ behind) → NearDone e b page at o b′
-  near-done l o kept short fits s b′ g = record {
+  near-done : suc at < length old → {τ₀ : ℕ} {asked : Unwind} → Calm τ₀ asked → (o : Left Entry) (kept : List Ref) → length kept ≤ suc at → Fitting 2 kept
+      → sweep stepEntry (o .1) (leafRow (take at old)) (o .0 ++ leafRow behind) ≡ (leafRow kept ++ leafRow behind, asked)
+      → (b′ : List ℕ) → b′ ≡ withRow e b page (kept ++ behind) → NearDone e b page at τ₀ o b′
+  near-done l {asked = asked} calm o kept short fits s b′ g = record {
     row = kept ++ behind;
+    asked = asked;
+    calm = calm;
     bytes = g ∙ ap (λ (n : ℕ). store (layoutOf e) b page (rowPage e n (kept ++ behind))) (h .level);
     some = omega (arith, length-append kept behind, length-drop (suc at) old);
     few = (let f = h .whole .few in omega (arith, f, length-append kept behind, length-drop (suc at) old));
@@ -68,7 +71,7 @@ module _ {e : ℕ} {b : List ℕ} {page at : ℕ} (h : NearPre e b page at) wher
         ap (λ (r : List Ref). lastDepth depthOf 0 (kept ++ r)) parted
         ∙ last-behind 0 0 kept (take (suc at) old) (getD old (suc at) (0, 0)) (drop (suc (suc at)) old)
         ∙ ap (λ (r : List Ref). lastDepth depthOf 0 (take (suc at) old ++ r)) (sym parted) ∙ ap (lastDepth depthOf 0) (take-append-drop (suc at) old);
-    left = s ∙ ap (λ (r : List Entry). (r, Idle)) (sym (map-append (leafOf 65535) kept behind));
+    left = s ∙ ap (λ (r : List Entry). (r, asked)) (sym (map-append (leafOf 65535) kept behind));
   }
     where
       parted : behind ≡ getD old (suc at) (0, 0) ∷ drop (suc (suc at)) old
@@ -85,25 +88,22 @@ module _ {e : ℕ} {b : List ℕ} {page at : ℕ} (h : FollowedPre e b page at) 
   pub followed-read : (i : ℕ) → i ≤ suc at → Within (layoutOf e) b page × (i < e)
   followed-read i l = (let w = h .near .whole .few in let f = h .followed in (h .near .whole .within, omega (arith, w, f, l)))
 
-  module _ {from n g : ℕ} (s : Staying row n g from) (some : from ≡ 0 → ⊥) where
-    at-least : 1 ≤ from
-    at-least = omega (arith, some)
-
+  module _ {from n g : ℕ} (s : Staying row n g from) where
     -- What is taken out is a part of the row.
     pub clear-close : n ≡ at → WholePage e b page × (from ≤ at + 1) × (at + 1 ≤ length row)
     clear-close z = let f = h .followed in let k = s .few in (h .near .whole, omega (arith, k, z), omega (arith, f))
 
     -- The entry and the dummies before it go.
-    pub clear-done : n ≡ at → (b′ : List ℕ) → b′ ≡ withRow e b page (without from (at + 1) row) → NearDone e b page at ([], Clear g) b′
-    clear-done z b′ w =
+    pub clear-done : {τ₀ : ℕ} → Calm τ₀ (askedBefore g from) → n ≡ at → (b′ : List ℕ) → b′ ≡ withRow e b page (without from (at + 1) row) → NearDone e b page at τ₀ ([], Clear g) b′
+    clear-done calm z b′ w =
         let k = s .few in
-        near-done (h .near) (h .followed) ([], Clear g) (take from row) (omega (arith, k, z, length-take from row)) (front-fits (h .near) from)
-        (ap (λ (m : ℕ). sweep stepEntry (Clear g) (leafRow (take m row)) (leafRow after)) (sym z) ∙ s .swept at-least (leafRow after)) b′
+        near-done (h .near) (h .followed) calm ([], Clear g) (take from row) (omega (arith, k, z, length-take from row)) (front-fits (h .near) from)
+        (ap (λ (m : ℕ). sweep stepEntry (Clear g) (leafRow (take m row)) (leafRow after)) (sym z) ∙ s .swept (leafRow after)) b′
         (w ∙ ap (λ (m : ℕ). withRow e b page (take from row ++ drop m row)) (add-one at))
 
   -- ---- the entry before takes a depth
 
-  module _ {d q from : ℕ} (some : at ≡ 0 → ⊥) (s : Staying row (at - 1) d from) (left : from ≡ 0 → ⊥) (fits : q < 65536) where
+  module _ {d q from : ℕ} (some : at ≡ 0 → ⊥) (s : Staying row (at - 1) d from) (fits : q < 65536) where
     abbrev new : List Ref
     new = set row at (d, q)
 
@@ -141,23 +141,23 @@ module _ {e : ℕ} {b : List ℕ} {page at : ℕ} (h : FollowedPre e b page at) 
             ap (λ (k : ℕ). take k row) (let z : at ≡ suc (at - 1) = omega (arith, some) in z)
             ∙ take-refs (layoutOf e) (pageBytes (layoutOf e) b page) (at - 1) (let i = h .near .inside in omega (arith, i, length-refs (layoutOf e) (pageBytes (layoutOf e) b page)))
 
-        swept : sweep stepEntry (Give d) (leafRow (take at row)) (leafRow after) ≡ (leafRow (take from row ++ (d, q) ∷ []) ++ leafRow after, Idle)
+        swept : sweep stepEntry (Give d) (leafRow (take at row)) (leafRow after) ≡ (leafRow (take from row ++ (d, q) ∷ []) ++ leafRow after, askedBefore d from)
         swept =
             ap (λ (r : List Ref). sweep stepEntry (Give d) (leafRow r) (leafRow after)) before-is
             ∙ sweep-last (Give d) (take (at - 1) row) (refAt (layoutOf e) (pageBytes (layoutOf e) b page) (at - 1)) (leafRow after)
             (leafOf 65535 (d, refAt (layoutOf e) (pageBytes (layoutOf e) b page) (at - 1) .1) ∷ [], Clear d) refl
             ∙ ap (λ (k : ℕ). sweep stepEntry (Clear d) (leafRow (take (at - 1) row)) (leafOf 65535 (d, k) ∷ leafRow after)) (sym q-is)
-            ∙ s .swept (omega (arith, left)) (leafOf 65535 (d, q) ∷ leafRow after)
-            ∙ ap (λ (r : List Entry). (r, Idle))
+            ∙ s .swept (leafOf 65535 (d, q) ∷ leafRow after)
+            ∙ ap (λ (r : List Entry). (r, askedBefore d from))
             (sym (append-assoc (leafRow (take from row)) (leafOf 65535 (d, q) ∷ []) (leafRow after))
             ∙ ap (λ (r : List Entry). r ++ leafRow after) (sym (map-append (leafOf 65535) (take from row) ((d, q) ∷ []))))
 
         -- is left without the entries in between.
-        pub give-done : (b₂ : List ℕ) → b₂ ≡ withRow e b₁ page (without from at (pagesAt (layoutOf e) b₁ page)) → NearDone e b page at ([], Give d) b₂
-        give-done b₂ w₂ =
+        pub give-done : {τ₀ : ℕ} → Calm τ₀ (askedBefore d from) → (b₂ : List ℕ) → b₂ ≡ withRow e b₁ page (without from at (pagesAt (layoutOf e) b₁ page)) → NearDone e b page at τ₀ ([], Give d) b₂
+        give-done calm b₂ w₂ =
             let k = s .few in
             let i = h .near .inside in
-            near-done (h .near) (h .followed) ([], Give d) (take from row ++ (d, q) ∷ []) (omega (arith, k, some, length-append (take from row) ((d, q) ∷ []), length-take from row)) kept-fits swept b₂
+            near-done (h .near) (h .followed) calm ([], Give d) (take from row ++ (d, q) ∷ []) (omega (arith, k, some, length-append (take from row) ((d, q) ∷ []), length-take from row)) kept-fits swept b₂
             (w₂ ∙ ap (λ (r : List Ref). withRow e b₁ page (without from at r)) now-row ∙ ap (λ (t : List ℕ). withRow e t page (without from at new)) w
             ∙ row-again (h .near .whole) new few-new fits-new (without from at new)
             (let f = h .near .whole .few in omega (arith, k, f, i, (let z : length (without from at new) ≡ length ((take from row ++ (d, q) ∷ []) ++ after) = ap length left-is in z), length-append (take from row ++ (d, q) ∷ []) after, length-append (take from row) ((d, q) ∷ []), length-take from row, length-drop (suc at) row))
@@ -166,7 +166,7 @@ module _ {e : ℕ} {b : List ℕ} {page at : ℕ} (h : FollowedPre e b page at) 
 -- ---- figure 11 at the entry
 
 -- Nothing is changed.
-pub strike-none : {e : ℕ} {b : List ℕ} {page at τ : ℕ} → StrikePost e b page at τ b false
+pub strike-none : {e : ℕ} {b : List ℕ} {page at τ τ₀ : ℕ} → StrikePost e b page at τ τ₀ b false
 strike-none = record { done = λ y. absurd (true-false (sym y)); none = λ y. refl }
 
 module _ {e : ℕ} {b : List ℕ} {page at : ℕ} (h : NearPre e b page at) where
@@ -201,24 +201,24 @@ module _ {e : ℕ} {b : List ℕ} {page at : ℕ} (h : NearPre e b page at) wher
     struck-dummy : τ ≤ d → d ≤ next → struckAt entries at τ ≡ (entry d none ∷ [], Idle)
     struck-dummy g k = rw (depth-is, follows, le-ltb d τ g, le-ltb next d k) refl
 
-    as-struck : (o : Left Entry) → struckAt entries at τ ≡ o → (b′ : List ℕ) (r : Bool) → NearPost e b page at o b′ r → StrikePost e b page at τ b′ r
-    as-struck o z b′ r q = record { done = λ y. (l, subst (λ (v : Left Entry). NearDone e b page at v b′) (sym z) (q .done y)); none = q .none }
+    as-struck : {τ₀ : ℕ} (o : Left Entry) → struckAt entries at τ ≡ o → (b′ : List ℕ) (r : Bool) → NearPost e b page at τ₀ o b′ r → StrikePost e b page at τ τ₀ b′ r
+    as-struck {τ₀} o z b′ r q = record { done = λ y. (l, subst (λ (v : Left Entry). NearDone e b page at τ₀ v b′) (sym z) (q .done y)); none = q .none }
 
     -- The entry before takes its depth.
-    pub strike-give : d < τ → (b′ : List ℕ) (r : Bool) → NearPost e b page at ([], Give d) b′ r → StrikePost e b page at τ b′ r
+    pub strike-give : {τ₀ : ℕ} → d < τ → (b′ : List ℕ) (r : Bool) → NearPost e b page at τ₀ ([], Give d) b′ r → StrikePost e b page at τ τ₀ b′ r
     strike-give g b′ r q = as-struck ([], Give d) (struck-give g) b′ r q
 
     -- Dummies before it go with it.
-    pub strike-clear : τ ≤ d → next < d → (b′ : List ℕ) (r : Bool) → NearPost e b page at ([], Clear next) b′ r → StrikePost e b page at τ b′ r
+    pub strike-clear : {τ₀ : ℕ} → τ ≤ d → next < d → (b′ : List ℕ) (r : Bool) → NearPost e b page at τ₀ ([], Clear next) b′ r → StrikePost e b page at τ τ₀ b′ r
     strike-clear g k b′ r q = as-struck ([], Clear next) (struck-clear g k) b′ r q
 
     -- It is a dummy now.
-    pub strike-dummy : τ ≤ d → d ≤ next → (b′ : List ℕ) → b′ ≡ withRow e b page (set entries at (d, 65535)) → StrikePost e b page at τ b′ true
+    pub strike-dummy : {τ₀ : ℕ} → τ ≤ d → d ≤ next → (b′ : List ℕ) → b′ ≡ withRow e b page (set entries at (d, 65535)) → StrikePost e b page at τ τ₀ b′ true
     strike-dummy g k b′ w =
         as-struck (entry d none ∷ [], Idle) (struck-dummy g k) b′ true
         (record {
           done = λ y.
-              near-done h l (entry d none ∷ [], Idle) (take at entries ++ (d, 65535) ∷ [])
+              near-done h l {asked = Idle} tt (entry d none ∷ [], Idle) (take at entries ++ (d, 65535) ∷ [])
               (omega (arith, length-append (take at entries) ((d, 65535) ∷ []), length-take at entries))
               (all-append (λ (x : Ref). x .1 < 65536) (take at entries) ((d, 65535) ∷ []) (front-fits h at) (omega arith, tt))
               (idle-leaves (leafRow (take at entries)) (entry d none ∷ leafRow (drop (suc at) entries))

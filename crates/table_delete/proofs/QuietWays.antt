@@ -5,8 +5,8 @@ use Prim.Native.Nat.{ℕ, zero, suc, _+_, _≤_, _<_}
 use native.Mathlib.Omega.{arith}
 use lib.ListN.{length, getD, take, drop, length-map}
 use lib.Seq.{drop-cons}
-use Rattle.page_tree.specs.Rows.{All}
-use Rattle.page_tree.specs.declared.Unwind.the-variants.{Idle}
+use Rattle.page_tree.specs.Rows.{All, lastDepth}
+use Rattle.page_tree.specs.declared.Unwind.{Unwind}
 use Rattle.page_tree.specs.OffPages.{Left, sweep, strikeIn}
 use Rattle.page_tree.specs.Numbered.{Numbered, numberedDepth, numberedLeaves, keptUnder, stepNumbered, deleteNumbered}
 use Rattle.page_tree.proofs.ListLaws.{all-left}
@@ -20,22 +20,25 @@ use Rattle.table_search.specs.declared.Spot.{Spot}
 use Rattle.table_search.specs.declared.Leaf.{Leaf}
 use Rattle.table_search.specs.Places.{leftFrom, Stopped, Way}
 use Rattle.table_search.proofs.Descents.{descend-within}
-use Rattle.table_delete.specs.Keeping.{numbersAt, Linked, Kept}
+use Rattle.table_delete.specs.Keeping.{depthOf, numbersAt, Linked, Kept}
 use Rattle.table_delete.specs.Rows.{settled, entryFor}
 use Rattle.table_delete.specs.Removing.{followingAt, RemovePre}
-use Rattle.table_delete.specs.OnePage.{NearDone, struckAt}
+use Rattle.table_delete.specs.OnePage.{Calm, NearDone, struckAt}
+use Rattle.table_delete.proofs.CalmRows.{askedPast, past-calm, kept-some, calm-row}
 use Rattle.table_delete.proofs.Frames.{kept-at, before-stays, after-stays}
 use Rattle.table_delete.proofs.RowChanges.{page-some, entry-some}
 use Rattle.table_delete.proofs.Settling.{settled-kept, settled-numbers}
 use Rattle.table_delete.proofs.Sweeps.{none-met}
-use Rattle.table_delete.proofs.SweepTurns.{met-mid, kept-some, idle-row}
+use Rattle.table_delete.proofs.SweepTurns.{met-mid}
 use Rattle.table_delete.proofs.FoundPlaces.{found-parted, found-linked, found-owned, found-down, found-strike}
 use Rattle.table_delete.proofs.Removals.{remove-descend}
 
--- The entry x of rank n stays, whatever follows it, and nothing is asked of the entry before it. Above level 0 its page stays too.
+-- The entry x of rank n stays, whatever follows it, and what is asked changes no entry of the depth τ before it. Above level 0 its page stays too.
 pub record Quiet (e P n : ℕ) (b : List ℕ) (x : Ref) (bs : List ℕ) (τ : ℕ) (b′ : List ℕ) : Type 0 where
   pub kept : Kept (layoutOf e) P n b (met n (pagesAt (layoutOf e) b) x) b′ (x ∷ [])
-  pub left : (ν : ℕ) → deleteNumbered n ν bs τ (numberedAt 65535 n (pagesAt (layoutOf e) b) x) ≡ (numberedAt 65535 n (pagesAt (layoutOf e) b′) x ∷ [], Idle)
+  pub asked : Unwind
+  pub calm : Calm τ asked
+  pub left : (ν : ℕ) → deleteNumbered n ν bs τ (numberedAt 65535 n (pagesAt (layoutOf e) b) x) ≡ (numberedAt 65535 n (pagesAt (layoutOf e) b′) x ∷ [], asked)
   pub page : 2 ≤ n → pagesAt (layoutOf e) b′ (x .1) ≡ pagesAt (layoutOf e) b (x .1)
 
 module _ {e P n : ℕ} {b : List ℕ} {x : Ref} {w key position τ : ℕ} (h : RemovePre e P (suc n) b x w key position) (s : Spot) (a : Stopped w key position τ (pagesAt (layoutOf e) b (x .1)) s) where
@@ -119,13 +122,20 @@ module _ {e P n : ℕ} {b : List ℕ} {x : Ref} {w key position τ : ℕ} (h : R
     front-linked : All (Linked L P n b) front
     front-linked = all-left (Linked L P n b) front (y ∷ rest) linked
 
+    -- The entry before, if the page has one, ends at the depth that is not above.
+    front-calm : Calm (lastDepth depthOf τ front) (q .asked)
+    front-calm = subst (λ (t : ℕ). Calm t (q .asked)) (sym (a .trail)) (q .calm)
+
+    abbrev asks : Unwind
+    asks = askedPast front (q .asked)
+
     -- The row of the page with the entry found as it reads now.
-    swept : (ν : ℕ) → strikeIn (numberedDepth n) (numberedLeaves n) (stepNumbered n) (deleteNumbered n) ν (leftFrom w key position) τ (numbersAt n pages row) ≡ (numbersAt n pages′ row, Idle)
+    swept : (ν : ℕ) → strikeIn (numberedDepth n) (numberedLeaves n) (stepNumbered n) (deleteNumbered n) ν (leftFrom w key position) τ (numbersAt n pages row) ≡ (numbersAt n pages′ row, asks)
     swept ν =
         found-strike h s a ν (followingAt n pages ν rest) refl
         ∙ ap (λ (o : Left (Numbered n)). sweep (stepNumbered n) (o .1) (numbersAt n pages front) (o .0 ++ numbersAt n pages rest)) (q .left (followingAt n pages ν rest))
-        ∙ idle-row L P b n front front-linked (numberedAt 65535 n pages′ y ∷ numbersAt n pages rest)
-        ∙ ap (λ (l : List (Numbered n)). (l, Idle))
+        ∙ calm-row L P b n front front-linked τ (q .asked) front-calm (numberedAt 65535 n pages′ y ∷ numbersAt n pages rest)
+        ∙ ap (λ (l : List (Numbered n)). (l, asks))
         (ap₂ (λ (l m : List (Numbered n)). l ++ numberedAt 65535 n pages′ y ∷ m) (sym (fronts .numbereds 65535)) (sym (rests .numbereds 65535))
         ∙ sym (map-append (numberedAt 65535 n pages′) front (y ∷ rest)) ∙ ap (numbersAt n pages′) (sym parted))
 
@@ -137,16 +147,18 @@ module _ {e P n : ℕ} {b : List ℕ} {x : Ref} {w key position τ : ℕ} (h : R
     unfolding numberedAt
     quiet-up = record {
       kept = up-kept;
+      asked = asks;
+      calm = past-calm τ front (q .asked) front-calm;
       left = λ ν.
           ap (λ (o : Left (Numbered n)). (keptUnder (x .1) (o .0), o .1)) (swept ν)
-          ∙ ap (λ (l : List (Numbered (suc n))). (l, Idle)) (kept-some L P b (x .1) (numbersAt n pages′ row) some-numbers ∙ ap (λ (l : List Ref). (x .1, numbersAt n pages′ l) ∷ []) (sym row-same));
+          ∙ ap (λ (l : List (Numbered (suc n))). (l, asks)) (kept-some (x .1) (numbersAt n pages′ row) some-numbers ∙ ap (λ (l : List Ref). (x .1, numbersAt n pages′ l) ∷ []) (sym row-same));
       page = λ k. row-same;
     }
 
 -- ---- the page of level 0
 
 module _ {e P : ℕ} {b : List ℕ} {x : Ref} {w key position τ : ℕ} (h : RemovePre e P 1 b x w key position) (s : Spot) (a : Stopped w key position τ (pagesAt (layoutOf e) b (x .1)) s)
-    (followed : suc (s .at) < length (pagesAt (layoutOf e) b (x .1))) (b′ : List ℕ) (d : NearDone e b (x .1) (s .at) (struckAt (pagesAt (layoutOf e) b (x .1)) (s .at) (s .trail)) b′) where
+    (followed : suc (s .at) < length (pagesAt (layoutOf e) b (x .1))) (b′ : List ℕ) (d : NearDone e b (x .1) (s .at) τ (struckAt (pagesAt (layoutOf e) b (x .1)) (s .at) (s .trail)) b′) where
   abbrev leafPages : Pages
   leafPages = pagesAt (layoutOf e) b
 
@@ -182,7 +194,7 @@ module _ {e P : ℕ} {b : List ℕ} {x : Ref} {w key position τ : ℕ} (h : Rem
   unfolding nodeAt
   next-is ν = sym (ap (followingAt 0 leafPages ν) (drop-cons old (suc (s .at)) (0, 0) followed))
 
-  leaf-swept : (ν : ℕ) → strikeIn (numberedDepth 0) (numberedLeaves 0) (stepNumbered 0) (deleteNumbered 0) ν (leftFrom w key position) τ (numbersAt 0 leafPages old) ≡ (numbersAt 0 leafPages new, Idle)
+  leaf-swept : (ν : ℕ) → strikeIn (numberedDepth 0) (numberedLeaves 0) (stepNumbered 0) (deleteNumbered 0) ν (leftFrom w key position) τ (numbersAt 0 leafPages old) ≡ (numbersAt 0 leafPages new, d .asked)
   unfolding numberedAt
   leaf-swept ν = found-strike h s a ν (getD old (suc (s .at)) (0, 0) .0) (next-is ν) ∙ d .left
 
@@ -195,15 +207,17 @@ module _ {e P : ℕ} {b : List ℕ} {x : Ref} {w key position τ : ℕ} (h : Rem
       (ap (λ (t : List ℕ). numbersAt 1 (pagesAt (layoutOf e) t) (x ∷ [])) stored-is ∙ ap (numbersAt 1 (pagesAt (layoutOf e) (settled e 0 b (x .1) new))) (sym entry-is)
       ∙ settled-numbers e P 0 b x (h .back .linked .0 .number) (h .back .own) b new leaf-kept within (d .few) (d .fitting))
 
-  whole-left : (ν : ℕ) → deleteNumbered 1 ν (leftFrom w key position) τ (numberedAt 65535 1 leafPages x) ≡ (keptUnder (x .1) (numbersAt 0 leafPages new), Idle)
+  whole-left : (ν : ℕ) → deleteNumbered 1 ν (leftFrom w key position) τ (numberedAt 65535 1 leafPages x) ≡ (keptUnder (x .1) (numbersAt 0 leafPages new), d .asked)
   unfolding numberedAt
   whole-left ν = ap (λ (o : Left (Numbered 0)). (keptUnder (x .1) (o .0), o .1)) (leaf-swept ν)
 
-  -- Its parent's entry stays, and nothing is asked.
+  -- Its parent's entry stays.
   pub quiet-leaf : Quiet e P 1 b x (leftFrom w key position) τ b′
   quiet-leaf = record {
     kept = kept-page;
-    left = λ ν. whole-left ν ∙ ap (λ (l : List (Numbered 1)). (l, Idle)) numbers-are;
+    asked = d .asked;
+    calm = d .calm;
+    left = λ ν. whole-left ν ∙ ap (λ (l : List (Numbered 1)). (l, d .asked)) numbers-are;
     page = λ k. absurd (omega arith);
   }
 
@@ -222,7 +236,7 @@ way-page (suc n) τ leaf h a = way-page n (a .0 .trail) leaf (found-down h (a .0
 -- Every entry on the way stays.
 pub way-quiet : (n : ℕ) {e P : ℕ} {b : List ℕ} {x : Ref} {w key position : ℕ} (τ : ℕ) (leaf : Leaf) → RemovePre e P (suc n) b x w key position
     → Way w key (pagesAt (layoutOf e) b) n (x .1) position τ leaf → suc (leaf .at) < length (pagesAt (layoutOf e) b (leaf .page .0)) → (b′ : List ℕ)
-    → NearDone e b (leaf .page .0) (leaf .at) (struckAt (pagesAt (layoutOf e) b (leaf .page .0)) (leaf .at) (leaf .trail)) b′ → Quiet e P (suc n) b x (leftFrom w key position) τ b′
+    → NearDone e b (leaf .page .0) (leaf .at) (leaf .before) (struckAt (pagesAt (layoutOf e) b (leaf .page .0)) (leaf .at) (leaf .trail)) b′ → Quiet e P (suc n) b x (leftFrom w key position) τ b′
 way-quiet zero τ leaf h a l b′ d =
-    quiet-leaf h (record { at = leaf .at; position = leaf .position; trail = leaf .trail }) (a .place) (rw (a .page-is) at l) b′ (rw (a .page-is) at d)
+    quiet-leaf h (record { at = leaf .at; position = leaf .position; trail = leaf .trail }) (a .place) (rw (a .page-is) at l) b′ (rw (a .page-is, a .before-is) at d)
 way-quiet (suc n) τ leaf h a l b′ d = quiet-up h (a .0) (a .1) b′ (way-quiet n (a .0 .trail) leaf (found-down h (a .0) (a .1)) (a .2) l b′ d)

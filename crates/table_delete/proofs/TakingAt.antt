@@ -6,7 +6,6 @@ use Prim.Native.Nat.{ℕ, zero, suc, _+_, _<_}
 use native.Mathlib.Omega.{arith}
 use native.Mathlib.Numerals.{add-one}
 use lib.ListN.{length}
-use Rattle.page_tree.specs.declared.Unwind.the-variants.{Idle}
 use Rattle.page_tree.specs.OffPages.{Left}
 use Rattle.page_tree.specs.Numbered.{Numbered}
 use Rattle.index_table.specs.Layout.{layoutOf, pageBytes}
@@ -45,13 +44,13 @@ module _ {b : List ℕ} {e P level : ℕ} (root : PageNo) {w key : ℕ} {leaf : 
     inside = leaf-page .inside;
   }
 
-  module _ (b′ : List ℕ) (d : (suc (leaf .at) < length (pagesAt (layoutOf e) b (leaf .page .0))) × NearDone e b (leaf .page .0) (leaf .at) (struckAt (pagesAt (layoutOf e) b (leaf .page .0)) (leaf .at) (leaf .trail)) b′) where
+  module _ (b′ : List ℕ) (d : (suc (leaf .at) < length (pagesAt (layoutOf e) b (leaf .page .0))) × NearDone e b (leaf .page .0) (leaf .at) (leaf .before) (struckAt (pagesAt (layoutOf e) b (leaf .page .0)) (leaf .at) (leaf .trail)) b′) where
     quiet : Quiet e P (suc level) b (rootRef (root .0)) (leftFrom w key (pre .first)) 0 b′
     quiet = way-quiet level 0 leaf remove-pre (pre .way) (d .0) b′ (d .1)
 
     -- What is left of the root's entry.
     abbrev left : Remnant
-    left = record { stays = true; depth = 0; pointer = root .0; state = Idle }
+    left = record { stays = true; depth = 0; pointer = root .0; state = quiet .asked }
 
     removed : RemovePost e P (level + 1) b (0, root .0) w key (pre .first) 0 0 b′ left
     removed = rw (add-one level) (record {

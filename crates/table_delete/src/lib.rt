@@ -76,7 +76,7 @@ pub fn take_out_at(
     requires { ⌜ TakeAtPre (now index) e pages level (root .0) w key leaf ⌝ }
     ensures { λ r. ⌜ TakePost (now (index .entry)) e pages level (root .0) w key (now (index .exit)) r ⌝ }
 {
-    if strike_near(index, e, leaf.page, leaf.at, leaf.trail) {
+    if strike_near(index, e, leaf.page, leaf.at, leaf.trail, leaf.before) {
         return Root {
             page: root,
             level: level,
