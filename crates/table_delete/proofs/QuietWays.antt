@@ -4,10 +4,10 @@ use mathlib.Core.List.{List, [], _∷_, _++_, append-assoc, map-append}
 use Prim.Native.Nat.{ℕ, zero, suc, _+_, _≤_, _<_}
 use native.Mathlib.Omega.{arith}
 use lib.ListN.{length, getD, take, drop, length-map}
-use lib.Seq.{drop-cons}
+use Rattle.leaf_list.specs.Entries.{Entry}
 use Rattle.page_tree.specs.Rows.{All, lastDepth}
 use Rattle.page_tree.specs.declared.Unwind.{Unwind}
-use Rattle.page_tree.specs.OffPages.{Left, sweep, strikeIn}
+use Rattle.page_tree.specs.OffPages.{Left, stepEntry, sweep, nextDepth, strikeIn}
 use Rattle.page_tree.specs.Numbered.{Numbered, numberedDepth, numberedLeaves, keptUnder, stepNumbered, deleteNumbered}
 use Rattle.page_tree.proofs.ListLaws.{all-left}
 use Rattle.index_table.specs.Layout.{Layout, layoutOf, Ref, Within, pageBytes, refsOf, store}
@@ -23,7 +23,7 @@ use Rattle.table_search.proofs.Descents.{descend-within}
 use Rattle.table_delete.specs.Keeping.{depthOf, numbersAt, Linked, Kept}
 use Rattle.table_delete.specs.Rows.{settled, entryFor}
 use Rattle.table_delete.specs.Removing.{followingAt, RemovePre}
-use Rattle.table_delete.specs.OnePage.{Calm, NearDone, struckAt}
+use Rattle.table_delete.specs.OnePage.{Calm, leafRow, NearDone, StruckNear}
 use Rattle.table_delete.proofs.CalmRows.{askedPast, past-calm, kept-some, calm-row}
 use Rattle.table_delete.proofs.Frames.{kept-at, before-stays, after-stays}
 use Rattle.table_delete.proofs.RowChanges.{page-some, entry-some}
@@ -158,7 +158,10 @@ module _ {e P n : ℕ} {b : List ℕ} {x : Ref} {w key position τ : ℕ} (h : R
 -- ---- the page of level 0
 
 module _ {e P : ℕ} {b : List ℕ} {x : Ref} {w key position τ : ℕ} (h : RemovePre e P 1 b x w key position) (s : Spot) (a : Stopped w key position τ (pagesAt (layoutOf e) b (x .1)) s)
-    (followed : suc (s .at) < length (pagesAt (layoutOf e) b (x .1))) (b′ : List ℕ) (d : NearDone e b (x .1) (s .at) τ (struckAt (pagesAt (layoutOf e) b (x .1)) (s .at) (s .trail)) b′) where
+    (b′ : List ℕ) (struck : StruckNear e b (x .1) (s .at) (s .trail) τ b′) where
+  abbrev d : NearDone e b (x .1) (s .at) τ (struck .of-entry) b′
+  d = struck .done
+
   abbrev leafPages : Pages
   leafPages = pagesAt (layoutOf e) b
 
@@ -190,13 +193,16 @@ module _ {e P : ℕ} {b : List ℕ} {x : Ref} {w key position τ : ℕ} (h : Rem
   entry-is = entry-some (x .1) (x .0) new (d .some) (h .back .linked .1 ∙ sym (d .last))
 
   -- The depth that follows is that of the next entry.
-  next-is : (ν : ℕ) → getD old (suc (s .at)) (0, 0) .0 ≡ followingAt 0 leafPages ν (drop (suc (s .at)) old)
+  next-is : (ν : ℕ) (row : List Ref) → nextDepth ν (leafRow row) ≡ followingAt 0 leafPages ν row
   unfolding nodeAt
-  next-is ν = sym (ap (followingAt 0 leafPages ν) (drop-cons old (suc (s .at)) (0, 0) followed))
+  next-is ν [] = refl
+  next-is ν (y ∷ row) = refl
 
   leaf-swept : (ν : ℕ) → strikeIn (numberedDepth 0) (numberedLeaves 0) (stepNumbered 0) (deleteNumbered 0) ν (leftFrom w key position) τ (numbersAt 0 leafPages old) ≡ (numbersAt 0 leafPages new, d .asked)
   unfolding numberedAt
-  leaf-swept ν = found-strike h s a ν (getD old (suc (s .at)) (0, 0) .0) (next-is ν) ∙ d .left
+  leaf-swept ν =
+      found-strike h s a ν (nextDepth ν (leafRow (drop (suc (s .at)) old))) (next-is ν (drop (suc (s .at)) old))
+      ∙ ap (λ (o : Left Entry). sweep stepEntry (o .1) (leafRow (take (s .at) old)) (o .0 ++ leafRow (drop (suc (s .at)) old))) (struck .struck ν) ∙ d .left
 
   kept-page : Kept (layoutOf e) P 1 b (met 1 leafPages x) b′ (x ∷ [])
   kept-page = rw (stored-is, ← entry-is) (settled-kept e P 0 b x (h .back .linked .0 .number) (h .back .own) b new leaf-kept within (d .few) (d .fitting))
@@ -235,8 +241,8 @@ way-page (suc n) τ leaf h a = way-page n (a .0 .trail) leaf (found-down h (a .0
 
 -- Every entry on the way stays.
 pub way-quiet : (n : ℕ) {e P : ℕ} {b : List ℕ} {x : Ref} {w key position : ℕ} (τ : ℕ) (leaf : Leaf) → RemovePre e P (suc n) b x w key position
-    → Way w key (pagesAt (layoutOf e) b) n (x .1) position τ leaf → suc (leaf .at) < length (pagesAt (layoutOf e) b (leaf .page .0)) → (b′ : List ℕ)
-    → NearDone e b (leaf .page .0) (leaf .at) (leaf .before) (struckAt (pagesAt (layoutOf e) b (leaf .page .0)) (leaf .at) (leaf .trail)) b′ → Quiet e P (suc n) b x (leftFrom w key position) τ b′
-way-quiet zero τ leaf h a l b′ d =
-    quiet-leaf h (record { at = leaf .at; position = leaf .position; trail = leaf .trail }) (a .place) (rw (a .page-is) at l) b′ (rw (a .page-is, a .before-is) at d)
-way-quiet (suc n) τ leaf h a l b′ d = quiet-up h (a .0) (a .1) b′ (way-quiet n (a .0 .trail) leaf (found-down h (a .0) (a .1)) (a .2) l b′ d)
+    → Way w key (pagesAt (layoutOf e) b) n (x .1) position τ leaf → (b′ : List ℕ)
+    → StruckNear e b (leaf .page .0) (leaf .at) (leaf .trail) (leaf .before) b′ → Quiet e P (suc n) b x (leftFrom w key position) τ b′
+way-quiet zero τ leaf h a b′ d =
+    quiet-leaf h (record { at = leaf .at; position = leaf .position; trail = leaf .trail }) (a .place) b′ (rw (a .page-is, a .before-is) at d)
+way-quiet (suc n) τ leaf h a b′ d = quiet-up h (a .0) (a .1) b′ (way-quiet n (a .0 .trail) leaf (found-down h (a .0) (a .1)) (a .2) b′ d)

@@ -2,7 +2,7 @@
 use mathlib.Core.Path.{_≡_, refl, sym, ap, subst}
 use mathlib.Core.Bool.{true}
 use mathlib.Core.List.{List}
-use Prim.Native.Nat.{ℕ, zero, suc, _+_, _<_}
+use Prim.Native.Nat.{ℕ, zero, suc, _+_}
 use native.Mathlib.Omega.{arith}
 use native.Mathlib.Numerals.{add-one}
 use lib.ListN.{length}
@@ -21,7 +21,7 @@ use Rattle.table_search.specs.Places.{leftFrom}
 use Rattle.table_delete.specs.declared.entries.Remnant.{Remnant}
 use Rattle.table_delete.specs.Removing.{RemovePre, RemovePost}
 use Rattle.table_delete.specs.Taking.{LowerPre, LowerPost, TakePre, TakeAtPre, TakePost}
-use Rattle.table_delete.specs.OnePage.{NearPre, NearDone, struckAt}
+use Rattle.table_delete.specs.OnePage.{NearPre, StruckNear}
 use Rattle.table_delete.proofs.Lowering.{lower-leaf, lower-stop}
 use Rattle.table_delete.proofs.QuietWays.{Quiet, LeafPage, way-page, way-quiet}
 use Rattle.table_delete.proofs.TakingOut.{take-remove, take-lower, take-post}
@@ -44,9 +44,9 @@ module _ {b : List ℕ} {e P level : ℕ} (root : PageNo) {w key : ℕ} {leaf : 
     inside = leaf-page .inside;
   }
 
-  module _ (b′ : List ℕ) (d : (suc (leaf .at) < length (pagesAt (layoutOf e) b (leaf .page .0))) × NearDone e b (leaf .page .0) (leaf .at) (leaf .before) (struckAt (pagesAt (layoutOf e) b (leaf .page .0)) (leaf .at) (leaf .trail)) b′) where
+  module _ (b′ : List ℕ) (d : StruckNear e b (leaf .page .0) (leaf .at) (leaf .trail) (leaf .before) b′) where
     quiet : Quiet e P (suc level) b (rootRef (root .0)) (leftFrom w key (pre .first)) 0 b′
-    quiet = way-quiet level 0 leaf remove-pre (pre .way) (d .0) b′ (d .1)
+    quiet = way-quiet level 0 leaf remove-pre (pre .way) b′ d
 
     -- What is left of the root's entry.
     abbrev left : Remnant

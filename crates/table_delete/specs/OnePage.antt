@@ -6,7 +6,7 @@ use Prim.Native.Nat.{ℕ, zero, suc, _≤_, _<_}
 use lib.ListN.{length, getD, take, drop}
 use Rattle.leaf_list.specs.Entries.{Entry}
 use Rattle.page_tree.specs.Rows.{lastDepth}
-use Rattle.page_tree.specs.OffPages.{Left, stepEntry, sweep, strike}
+use Rattle.page_tree.specs.OffPages.{Left, stepEntry, sweep, nextDepth, strike}
 use Rattle.page_tree.specs.declared.Unwind.{Unwind}
 use Rattle.page_tree.specs.declared.Unwind.the-variants.{Idle, Give, Clear}
 use Rattle.index_table.specs.Layout.{layoutOf, Ref, pageBytes, levelOf, Fitting, rowPage, store}
@@ -46,6 +46,11 @@ pub record FollowedPre (e : ℕ) (b : List ℕ) (page at : ℕ) : Type 0 where
   pub near : NearPre e b page at
   pub followed : suc at < length (pagesAt (layoutOf e) b page)
 
+-- The entry has the depth d.
+pub record GivePre (e : ℕ) (b : List ℕ) (page at d : ℕ) : Type 0 where
+  pub near : NearPre e b page at
+  pub depth-is : getD (pagesAt (layoutOf e) b page) at (0, 0) .0 ≡ d
+
 -- The page is stored with the row that is left, where o is what is left of the entry at the place: what is asked of the page before, whose
 -- last depth is τ₀, changes nothing there.
 pub record NearDone (e : ℕ) (b : List ℕ) (page at τ₀ : ℕ) (o : Left Entry) (b′ : List ℕ) : Type 0 where
@@ -64,11 +69,17 @@ pub record NearPost (e : ℕ) (b : List ℕ) (page at τ₀ : ℕ) (o : Left Ent
   pub done : r ≡ true → NearDone e b page at τ₀ o b′
   pub none : r ≡ false → b′ ≡ b
 
--- What figure 11 leaves of the entry at a place, between the depth before it and that of the entry behind it.
-abbrev pub struckAt : List Ref → ℕ → ℕ → Left Entry
-struckAt row at τ = strike τ (getD row (suc at) (0, 0) .0) (leafOf 65535 (getD row at (0, 0)))
+-- What figure 11 leaves of the entry at a place, between the depth before it and that of the entry behind it, ν where the page ends with it.
+abbrev pub struckAt : List Ref → ℕ → ℕ → ℕ → Left Entry
+struckAt row at τ ν = strike τ (nextDepth ν (leafRow (drop (suc at) row))) (leafOf 65535 (getD row at (0, 0)))
 
--- The entry has one behind it in its page, and figure 11 leaves the page so, or no byte changes.
+-- Figure 11 at the entry leaves the page so, whatever stands behind the page.
+pub record StruckNear (e : ℕ) (b : List ℕ) (page at τ τ₀ : ℕ) (b′ : List ℕ) : Type 0 where
+  pub of-entry : Left Entry
+  pub struck : (ν : ℕ) → struckAt (pagesAt (layoutOf e) b page) at τ ν ≡ of-entry
+  pub done : NearDone e b page at τ₀ of-entry b′
+
+-- It is so, or no byte changes.
 pub record StrikePost (e : ℕ) (b : List ℕ) (page at τ τ₀ : ℕ) (b′ : List ℕ) (r : Bool) : Type 0 where
-  pub done : r ≡ true → (suc at < length (pagesAt (layoutOf e) b page)) × NearDone e b page at τ₀ (struckAt (pagesAt (layoutOf e) b page) at τ) b′
+  pub done : r ≡ true → StruckNear e b page at τ τ₀ b′
   pub none : r ≡ false → b′ ≡ b

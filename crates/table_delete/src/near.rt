@@ -7,7 +7,7 @@ ghost use lib.ListN.{length};
 ghost use Rattle.page_tree.specs.declared.Unwind.the-variants.{Give, Clear};
 ghost use Rattle.index_table.specs.Layout.{Within, layoutOf};
 ghost use Rattle.index_table.specs.Pages.{pagesAt};
-ghost use Rattle.table_delete.specs.OnePage.{Calm, askedBefore, Staying, NearPre, FollowedPre, NearPost, StrikePost};
+ghost use Rattle.table_delete.specs.OnePage.{Calm, askedBefore, Staying, NearPre, FollowedPre, GivePre, NearPost, StrikePost};
 use crate::entries::deep;
 use index_table::close::close;
 use index_table::close::replace_entry;
@@ -48,7 +48,7 @@ fn reaches_back(from: usize, before: u64, g: u8) -> bool
 
 // A 1-leaf goes: the entry before it takes its depth d, and dummies deeper than d before that one go.
 fn give_near(index: &mut [u8], e: u8, page: PageNo, at: usize, before: u64, d: u8) -> bool
-    requires { ⌜ FollowedPre e (now index) (page .0) at ⌝ }
+    requires { ⌜ GivePre e (now index) (page .0) at d ⌝ }
     ensures { λ r. ⌜ NearPost e (now (index .entry)) (page .0) at before ([], Give d) (now (index .exit)) r ⌝ }
 {
     if at == 0 {
@@ -91,14 +91,14 @@ pub fn strike_near(
     requires { ⌜ NearPre e (now index) (page .0) at ⌝ }
     ensures { λ r. ⌜ StrikePost e (now (index .entry)) (page .0) at trail before (now (index .exit)) r ⌝ }
 {
-    if wide(count(index, e, page)) <= at + 1 {
-        return false;
-    }
     let d = depth(index, e, page, at);
-    let next = depth(index, e, page, at + 1);
     if deep(d) < trail {
         return give_near(index, e, page, at, before, d);
     }
+    if wide(count(index, e, page)) <= at + 1 {
+        return false;
+    }
+    let next = depth(index, e, page, at + 1);
     if next < d {
         return clear_near(index, e, page, at, before, next);
     }

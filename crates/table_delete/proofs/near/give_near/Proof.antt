@@ -37,7 +37,7 @@ close-requires c κs =
     let stays = tested .before .before in
     let first = stays .before .before in
     let start = first .before .before in
-    give-close (start .pre) (first .if1 .left) (stays .staying .ensures) (omega (arith, read .pointer .ensures .1)) _ (replaced .replace-entry .ensures)
+    give-close (start .pre .near) (start .pre .depth-is) (first .if1 .left) (stays .staying .ensures) (omega (arith, read .pointer .ensures .1)) _ (replaced .replace-entry .ensures)
 
 same-length-2 : tie.Need-same-length-2
 same-length-2 c = search needs
@@ -50,7 +50,7 @@ returns-3 c =
     let stays = tested .before .before in
     let first = stays .before .before in
     let start = first .before .before in
-    near-some (give-done (start .pre) (first .if1 .left) (stays .staying .ensures) (omega (arith, read .pointer .ensures .1)) _ (replaced .replace-entry .ensures) (read .pointer .ensures .0) (tested .before .reaches-back .ensures (tested .if2 .left)) _ (c .before .before .close .ensures))
+    near-some (give-done (start .pre .near) (start .pre .depth-is) (first .if1 .left) (stays .staying .ensures) (omega (arith, read .pointer .ensures .1)) _ (replaced .replace-entry .ensures) (read .pointer .ensures .0) (tested .before .reaches-back .ensures (tested .if2 .left)) _ (c .before .before .close .ensures))
 
 pub give-near-spec : {M : Type 1} → statement M
 give-near-spec =
