@@ -17,3 +17,4 @@ pub mod StayingEntries
 pub mod NearRows
 pub mod QuietWays
 pub mod TakingAt
+pub mod Blanks

@@ -23,7 +23,7 @@ use Rattle.index_table.specs.Changing.{WholePage, withRow, without}
 use Rattle.index_table.proofs.PageRows.{length-refs, getD-refs, take-refs}
 use Rattle.index_table.proofs.PageChanges.{row-read, row-whole, row-again}
 use Rattle.table_delete.specs.Keeping.{depthOf}
-use Rattle.table_delete.specs.OnePage.{leafRow, Calm, askedBefore, Staying, NearPre, FollowedPre, GivePre, NearDone, NearPost, struckAt, StrikePost}
+use Rattle.table_delete.specs.OnePage.{leafRow, Calm, askedBefore, Staying, NearPre, FollowedPre, GivePre, NearDone, NearPost, struckAt, StrikePost, DummyPost}
 use Rattle.table_delete.proofs.RowChanges.{drop-set}
 use Rattle.table_delete.proofs.StayingEntries.{sweep-last, idle-leaves}
 
@@ -177,6 +177,36 @@ module _ {e : ℕ} {b : List ℕ} {page at : ℕ} (h : FollowedPre e b page at) 
         (ap (λ (m : ℕ). sweep stepEntry (Clear g) (leafRow (take m row)) (leafRow after)) (sym z) ∙ s .swept (leafRow after)) b′
         (w ∙ ap (λ (m : ℕ). withRow e b page (take from row ++ drop m row)) (add-one at))
 
+-- ---- the entry becomes a dummy
+
+module _ {e : ℕ} {b : List ℕ} {page at d : ℕ} (h : GivePre e b page at d) where
+  abbrev given : List Ref
+  given = pagesAt (layoutOf e) b page
+
+  dummy-done : {τ₀ : ℕ} (b′ : List ℕ) → b′ ≡ withRow e b page (set given at (d, 65535)) → NearDone e b page at τ₀ (entry d none ∷ [], Idle) b′
+  dummy-done b′ w =
+      near-done (h .near) {asked = Idle} tt (entry d none ∷ [], Idle) (take at given ++ (d, 65535) ∷ [])
+      (omega (arith, length-append (take at given) ((d, 65535) ∷ []), length-take at given))
+      (omega (arith, length-append (take at given ++ (d, 65535) ∷ []) (drop (suc at) given), length-append (take at given) ((d, 65535) ∷ []))) (last-given (h .near) (h .depth-is) 65535 (take at given))
+      (all-append (λ (x : Ref). x .1 < 65536) (take at given) ((d, 65535) ∷ []) (front-fits (h .near) at) (omega arith, tt))
+      (idle-leaves (leafRow (take at given)) (entry d none ∷ leafRow (drop (suc at) given))
+      ∙ ap (λ (r : List Entry). (r, Idle))
+      (sym (append-assoc (leafRow (take at given)) (entry d none ∷ []) (leafRow (drop (suc at) given)))
+      ∙ ap (λ (r : List Entry). r ++ leafRow (drop (suc at) given)) (sym (map-append (leafOf 65535) (take at given) ((d, 65535) ∷ [])))))
+      b′
+      (w ∙ ap (withRow e b page) (set-split given at (d, 65535) (h .near .inside) ∙ sym (append-assoc (take at given) ((d, 65535) ∷ []) (drop (suc at) given))))
+
+  -- It does, between the depths before and behind it,
+  pub dummy-some : {τ next : ℕ} → τ ≤ d → d ≤ next → (b′ : List ℕ) → b′ ≡ withRow e b page (set given at (d, 65535)) → DummyPost e b page at τ next b′ true
+  dummy-some {τ} {next} g k b′ w = record {
+    done = λ y τ₀ ν f. record { of-entry = (entry d none ∷ [], Idle); struck = rw (h .depth-is, f, le-ltb d τ g, le-ltb next d k) refl; done = dummy-done b′ w };
+    none = λ y. absurd (true-false y);
+  }
+
+-- or nothing is changed.
+pub dummy-none : {e : ℕ} {b : List ℕ} {page at τ next : ℕ} → DummyPost e b page at τ next b false
+dummy-none = record { done = λ y. absurd (true-false (sym y)); none = λ y. refl }
+
 -- ---- figure 11 at the entry
 
 -- Nothing is changed.
@@ -193,7 +223,7 @@ module _ {e : ℕ} {b : List ℕ} {page at : ℕ} (h : NearPre e b page at) wher
     near-followed l = record { near = h; followed = omega (arith, l, counted, wide, length-refs (layoutOf e) (pageBytes (layoutOf e) b page)) }
 
   as-struck : {τ τ₀ : ℕ} (o : Left Entry) → ((ν : ℕ) → struckAt entries at τ ν ≡ o) → (b′ : List ℕ) (r : Bool) → NearPost e b page at τ₀ o b′ r → StrikePost e b page at τ τ₀ b′ r
-  as-struck o z b′ r q = record { done = λ y. record { of-entry = o; struck = z; done = q .done y }; none = q .none }
+  as-struck o z b′ r q = record { done = λ y ν. record { of-entry = o; struck = z ν; done = q .done y }; none = q .none }
 
   module _ {d : ℕ} (d-is : d ≡ refAt (layoutOf e) (pageBytes (layoutOf e) b page) at .0) where
     depth-is : getD entries at (0, 0) .0 ≡ d
@@ -230,20 +260,4 @@ module _ {e : ℕ} {b : List ℕ} {page at : ℕ} (h : NearPre e b page at) wher
 
       -- It is a dummy now.
       pub strike-dummy : {τ₀ : ℕ} → τ ≤ d → d ≤ next → (b′ : List ℕ) → b′ ≡ withRow e b page (set entries at (d, 65535)) → StrikePost e b page at τ τ₀ b′ true
-      strike-dummy g k b′ w =
-          as-struck (entry d none ∷ [], Idle) (struck-dummy g k) b′ true
-          (record {
-            done = λ y.
-                near-done h {asked = Idle} tt (entry d none ∷ [], Idle) (take at entries ++ (d, 65535) ∷ [])
-                (omega (arith, length-append (take at entries) ((d, 65535) ∷ []), length-take at entries))
-                (omega (arith, length-append (take at entries ++ (d, 65535) ∷ []) (drop (suc at) entries), length-append (take at entries) ((d, 65535) ∷ [])))
-                (last-given h depth-is 65535 (take at entries))
-                (all-append (λ (x : Ref). x .1 < 65536) (take at entries) ((d, 65535) ∷ []) (front-fits h at) (omega arith, tt))
-                (idle-leaves (leafRow (take at entries)) (entry d none ∷ leafRow (drop (suc at) entries))
-                ∙ ap (λ (r : List Entry). (r, Idle))
-                (sym (append-assoc (leafRow (take at entries)) (entry d none ∷ []) (leafRow (drop (suc at) entries)))
-                ∙ ap (λ (r : List Entry). r ++ leafRow (drop (suc at) entries)) (sym (map-append (leafOf 65535) (take at entries) ((d, 65535) ∷ [])))))
-                b′
-                (w ∙ ap (withRow e b page) (set-split entries at (d, 65535) (h .inside) ∙ sym (append-assoc (take at entries) ((d, 65535) ∷ []) (drop (suc at) entries))));
-            none = λ y. absurd (true-false y);
-          })
+      strike-dummy g k b′ w = as-struck (entry d none ∷ [], Idle) (struck-dummy g k) b′ true (near-some (dummy-done near-give b′ w))

@@ -73,13 +73,18 @@ pub record NearPost (e : ℕ) (b : List ℕ) (page at τ₀ : ℕ) (o : Left Ent
 abbrev pub struckAt : List Ref → ℕ → ℕ → ℕ → Left Entry
 struckAt row at τ ν = strike τ (nextDepth ν (leafRow (drop (suc at) row))) (leafOf 65535 (getD row at (0, 0)))
 
--- Figure 11 at the entry leaves the page so, whatever stands behind the page.
-pub record StruckNear (e : ℕ) (b : List ℕ) (page at τ τ₀ : ℕ) (b′ : List ℕ) : Type 0 where
+-- Figure 11 at the entry leaves the page so, where ν follows the page.
+pub record StruckNear (e : ℕ) (b : List ℕ) (page at τ τ₀ ν : ℕ) (b′ : List ℕ) : Type 0 where
   pub of-entry : Left Entry
-  pub struck : (ν : ℕ) → struckAt (pagesAt (layoutOf e) b page) at τ ν ≡ of-entry
+  pub struck : struckAt (pagesAt (layoutOf e) b page) at τ ν ≡ of-entry
   pub done : NearDone e b page at τ₀ of-entry b′
 
--- It is so, or no byte changes.
+-- It is so whatever follows, or no byte changes.
 pub record StrikePost (e : ℕ) (b : List ℕ) (page at τ τ₀ : ℕ) (b′ : List ℕ) (r : Bool) : Type 0 where
-  pub done : r ≡ true → StruckNear e b page at τ τ₀ b′
+  pub done : r ≡ true → (ν : ℕ) → StruckNear e b page at τ τ₀ ν b′
+  pub none : r ≡ false → b′ ≡ b
+
+-- It is so where the entry is followed by the depth next, or no byte changes.
+pub record DummyPost (e : ℕ) (b : List ℕ) (page at τ next : ℕ) (b′ : List ℕ) (r : Bool) : Type 0 where
+  pub done : r ≡ true → (τ₀ ν : ℕ) → nextDepth ν (leafRow (drop (suc at) (pagesAt (layoutOf e) b page))) ≡ next → StruckNear e b page at τ τ₀ ν b′
   pub none : r ≡ false → b′ ≡ b
