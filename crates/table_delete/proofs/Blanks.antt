@@ -1,7 +1,7 @@
 -- From a page down to the entry that may become a dummy, with the depth that follows it. Assumes nothing.
-use mathlib.Core.Path.{_≡_, refl, sym, ap, subst, _∙_}
+use mathlib.Core.Path.{_≡_, sym, ap, _∙_}
 use mathlib.Core.Bool.{Bool}
-use mathlib.Core.List.{List, [], _∷_, map}
+use mathlib.Core.List.{List, map}
 use Prim.Native.Nat.{ℕ, zero, suc, _+_, _-_, _≤_, _<_}
 use native.Mathlib.Omega.{arith}
 use native.Mathlib.Numerals.{add-one}
@@ -10,24 +10,23 @@ use lib.Seq.{drop-cons}
 use Rattle.leaf_list.proofs.Lists.{all-at}
 use Rattle.page_tree.specs.Rows.{flats}
 use Rattle.page_tree.specs.Tree.{leaves}
-use Rattle.page_tree.specs.OffPages.{nextDepth}
 use Rattle.index_table.specs.Layout.{layoutOf, Ref, Within, pageBytes, countOf, refAt}
-use Rattle.index_table.specs.Pages.{Pages, pagesAt, nodeAt}
+use Rattle.index_table.specs.Pages.{pagesAt, nodeAt}
 use Rattle.index_table.proofs.NumberLaws.{Bytes}
 use Rattle.index_table.proofs.PageBytes.{within-table}
 use Rattle.index_table.proofs.PageRows.{length-refs, refs-fit}
 use Rattle.index_table.proofs.WholePages.{cleared-whole}
 use Rattle.table_search.specs.declared.Spot.{Spot}
-use Rattle.table_search.specs.Places.{leftFrom, SeekPre, Stopped}
+use Rattle.table_search.specs.Places.{SeekPre, Stopped}
 use Rattle.table_search.proofs.Stops.{read-entry}
 use Rattle.table_search.proofs.Descents.{descend-within, descend-inside}
 use Rattle.table_delete.specs.Keeping.{Linked}
 use Rattle.table_delete.specs.Removing.{FirstPre, FirstPost, followingAt}
-use Rattle.table_delete.specs.OnePage.{leafRow, GivePre, DummyPost}
-use Rattle.table_delete.specs.Blanking.{Quiet, BesidePre, BlankPre, BlankPost}
+use Rattle.table_delete.specs.OnePage.{GivePre, DummyPost}
+use Rattle.table_delete.specs.Blanking.{BesidePre, BlankPre, BlankPost}
 use Rattle.table_delete.proofs.FoundPlaces.{found-down}
 use Rattle.table_delete.proofs.Removals.{remove-descend, locate-seek}
-use Rattle.table_delete.proofs.QuietWays.{quiet-up, quiet-leaf}
+use Rattle.table_delete.proofs.QuietWays.{quiet-up, next-leaf, quiet-leaf}
 
 -- ---- the depth that follows
 
@@ -99,12 +98,7 @@ blank-give zero {e} {P} {b} {x} h s a z bytes c-is = record {
   depth-is = ap (λ (y : Ref). y .0) (sym (read-entry (layoutOf e) b (x .1) (s .at) (a .inside))) ∙ sym c-is;
 }
 
--- The depth that follows on level 0 is that of the next entry.
-next-leaf : (pages : Pages) (ν : ℕ) (row : List Ref) → nextDepth ν (leafRow row) ≡ followingAt 0 pages ν row
-unfolding nodeAt
-next-leaf pages ν [] = refl
-next-leaf pages ν (y ∷ row) = refl
-
+-- What is left of it tells of the page.
 pub blank-struck : (n : ℕ) {e P : ℕ} {b : List ℕ} {x : Ref} {w key position τ : ℕ} → BlankPre e P (suc n) b x w key position → (s : Spot) → Stopped w key position τ (pagesAt (layoutOf e) b (x .1)) s
     → n ≡ 0 → (ν : ℕ) {next : ℕ} → next ≡ followingAt n (pagesAt (layoutOf e) b) ν (drop (s .at + 1) (pagesAt (layoutOf e) b (x .1))) → (b′ : List ℕ) (r : Bool)
     → DummyPost e b (x .1) (s .at) (s .trail) next b′ r → BlankPost e P (suc n) b x w key position τ ν b′ r
@@ -126,7 +120,7 @@ module _ (n : ℕ) {e P : ℕ} {b : List ℕ} {x : Ref} {w key position τ : ℕ
   pub blank-down : BlankPre e P (suc (n - 1)) b (c, p) w key (s .position)
   blank-down = rw (above, c-is, p-is, entry-at) (record { remove = found-down (h .remove) s a; cleared = h .cleared })
 
-  -- and what is left below it tells of the page.
+  -- and what is left below it tells of this one.
   pub blank-up : (ν : ℕ) {next : ℕ} → next ≡ followingAt n (pagesAt (layoutOf e) b) ν (drop (s .at + 1) (pagesAt (layoutOf e) b (x .1))) → (b′ : List ℕ) (r : Bool)
       → BlankPost e P (suc (n - 1)) b (c, p) w key (s .position) (s .trail) next b′ r → BlankPost e P (suc n) b x w key position τ ν b′ r
   blank-up ν f b′ r d =

@@ -10,7 +10,7 @@ use Rattle.leaf_list.specs.Entries.{Entry, entry, depthOf as entryDepth}
 use Rattle.page_tree.specs.Rows.{All, lastDepth}
 use Rattle.page_tree.specs.declared.Unwind.{Unwind}
 use Rattle.page_tree.specs.declared.Unwind.the-variants.{Idle, Give, Clear}
-use Rattle.page_tree.specs.OffPages.{Left, stepEntry, sweep}
+use Rattle.page_tree.specs.OffPages.{stepEntry, sweep}
 use Rattle.page_tree.specs.Numbered.{Numbered, keptUnder, stepNumbered}
 use Rattle.index_table.specs.Layout.{Layout, Ref}
 use Rattle.index_table.specs.Pages.{pagesAt, numberedAt, leafOf}

@@ -150,6 +150,12 @@ module _ {e P n : ℕ} {b : List ℕ} {x : Ref} {w key position τ : ℕ} (h : R
 
 -- ---- the page of level 0
 
+-- The depth that follows there is that of the next entry.
+pub next-leaf : (pages : Pages) (ν : ℕ) (row : List Ref) → nextDepth ν (leafRow row) ≡ followingAt 0 pages ν row
+unfolding nodeAt
+next-leaf pages ν [] = refl
+next-leaf pages ν (y ∷ row) = refl
+
 module _ {e P : ℕ} {b : List ℕ} {x : Ref} {w key position τ : ℕ} (h : RemovePre e P 1 b x w key position) (s : Spot) (a : Stopped w key position τ (pagesAt (layoutOf e) b (x .1)) s)
     (ν : ℕ) (b′ : List ℕ) (struck : StruckNear e b (x .1) (s .at) (s .trail) τ ν b′) where
   abbrev d : NearDone e b (x .1) (s .at) τ (struck .of-entry) b′
@@ -185,16 +191,10 @@ module _ {e P : ℕ} {b : List ℕ} {x : Ref} {w key position τ : ℕ} (h : Rem
   entry-is : entryFor (x .1) new ≡ x ∷ []
   entry-is = entry-some (x .1) (x .0) new (d .some) (h .back .linked .1 ∙ sym (d .last))
 
-  -- The depth that follows is that of the next entry.
-  next-is : (row : List Ref) → nextDepth ν (leafRow row) ≡ followingAt 0 leafPages ν row
-  unfolding nodeAt
-  next-is [] = refl
-  next-is (y ∷ row) = refl
-
   leaf-swept : strikeIn (numberedDepth 0) (numberedLeaves 0) (stepNumbered 0) (deleteNumbered 0) ν (leftFrom w key position) τ (numbersAt 0 leafPages old) ≡ (numbersAt 0 leafPages new, d .asked)
   unfolding numberedAt
   leaf-swept =
-      found-strike h s a ν (nextDepth ν (leafRow (drop (suc (s .at)) old))) (next-is (drop (suc (s .at)) old))
+      found-strike h s a ν (nextDepth ν (leafRow (drop (suc (s .at)) old))) (next-leaf leafPages ν (drop (suc (s .at)) old))
       ∙ ap (λ (o : Left Entry). sweep stepEntry (o .1) (leafRow (take (s .at) old)) (o .0 ++ leafRow (drop (suc (s .at)) old))) (struck .struck) ∙ d .left
 
   kept-page : Kept (layoutOf e) P 1 b (met 1 leafPages x) b′ (x ∷ [])

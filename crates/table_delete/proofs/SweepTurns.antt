@@ -1,9 +1,9 @@
 -- The loop over the row of a page from the right: what is left to do equals the whole. Assumes nothing.
 use mathlib.Core.Path.{_≡_, refl, sym, ap, ap₂, _∙_}
-use mathlib.Core.List.{List, [], _∷_, _++_, append-assoc, append-nil, map-append}
-use Prim.Native.Nat.{ℕ, zero, suc, _+_, _-_, _≤_, _<_}
+use mathlib.Core.List.{List, [], _∷_, _++_, append-assoc, map-append}
+use Prim.Native.Nat.{ℕ, suc, _+_, _-_, _≤_, _<_}
 use native.Mathlib.Omega.{arith}
-use lib.ListN.{length, getD, take, drop, length-map}
+use lib.ListN.{length, getD, take, drop}
 use lib.Seq.{take-suc}
 use Rattle.page_tree.specs.Rows.{All, sum}
 use Rattle.page_tree.specs.Row.{rowOf, Holds}
@@ -11,7 +11,7 @@ use Rattle.page_tree.specs.declared.Row.{Row}
 use Rattle.page_tree.specs.declared.Unwind.{Unwind}
 use Rattle.page_tree.specs.declared.Unwind.the-variants.{Idle}
 use Rattle.page_tree.specs.OffPages.{Left, sweep}
-use Rattle.page_tree.specs.Numbered.{Numbered, keptUnder, stepNumbered}
+use Rattle.page_tree.specs.Numbered.{Numbered, stepNumbered}
 use Rattle.page_tree.proofs.ListLaws.{all-left, all-right}
 use Rattle.page_tree.proofs.WalkPlaces.{sweep-append}
 use Rattle.index_table.specs.Layout.{Layout, layoutOf, Ref}

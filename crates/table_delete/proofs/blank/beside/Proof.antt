@@ -1,5 +1,4 @@
 -- The next entry of the page, or what came in. Assumes nothing.
-use native.Mathlib.Omega.{arith}
 use Rattle.table_delete.proofs.Blanks.{beside-within, beside-read, beside-first, beside-some, beside-none}
 use borrow.Author.Needs.{needs}
 use Rattle.table_delete.proofs.blank.beside.Statement.{statement}
