@@ -1,4 +1,5 @@
 pub mod EntryTurns
+pub mod CalmRows
 pub mod Following
 pub mod FoundPlaces
 pub mod Frames
@@ -16,3 +17,4 @@ pub mod StayingEntries
 pub mod NearRows
 pub mod QuietWays
 pub mod TakingAt
+pub mod Blanks

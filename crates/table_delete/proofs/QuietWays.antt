@@ -4,10 +4,10 @@ use mathlib.Core.List.{List, [], _∷_, _++_, append-assoc, map-append}
 use Prim.Native.Nat.{ℕ, zero, suc, _+_, _≤_, _<_}
 use native.Mathlib.Omega.{arith}
 use lib.ListN.{length, getD, take, drop, length-map}
-use lib.Seq.{drop-cons}
-use Rattle.page_tree.specs.Rows.{All}
-use Rattle.page_tree.specs.declared.Unwind.the-variants.{Idle}
-use Rattle.page_tree.specs.OffPages.{Left, sweep, strikeIn}
+use Rattle.leaf_list.specs.Entries.{Entry}
+use Rattle.page_tree.specs.Rows.{All, lastDepth}
+use Rattle.page_tree.specs.declared.Unwind.{Unwind}
+use Rattle.page_tree.specs.OffPages.{Left, stepEntry, sweep, nextDepth, strikeIn}
 use Rattle.page_tree.specs.Numbered.{Numbered, numberedDepth, numberedLeaves, keptUnder, stepNumbered, deleteNumbered}
 use Rattle.page_tree.proofs.ListLaws.{all-left}
 use Rattle.index_table.specs.Layout.{Layout, layoutOf, Ref, Within, pageBytes, refsOf, store}
@@ -20,23 +20,19 @@ use Rattle.table_search.specs.declared.Spot.{Spot}
 use Rattle.table_search.specs.declared.Leaf.{Leaf}
 use Rattle.table_search.specs.Places.{leftFrom, Stopped, Way}
 use Rattle.table_search.proofs.Descents.{descend-within}
-use Rattle.table_delete.specs.Keeping.{numbersAt, Linked, Kept}
+use Rattle.table_delete.specs.Keeping.{depthOf, numbersAt, Linked, Kept}
 use Rattle.table_delete.specs.Rows.{settled, entryFor}
 use Rattle.table_delete.specs.Removing.{followingAt, RemovePre}
-use Rattle.table_delete.specs.OnePage.{NearDone, struckAt}
+use Rattle.table_delete.specs.OnePage.{Calm, leafRow, NearDone, StruckNear}
+use Rattle.table_delete.specs.Blanking.{Quiet}
+use Rattle.table_delete.proofs.CalmRows.{askedPast, past-calm, kept-some, calm-row}
 use Rattle.table_delete.proofs.Frames.{kept-at, before-stays, after-stays}
 use Rattle.table_delete.proofs.RowChanges.{page-some, entry-some}
 use Rattle.table_delete.proofs.Settling.{settled-kept, settled-numbers}
 use Rattle.table_delete.proofs.Sweeps.{none-met}
-use Rattle.table_delete.proofs.SweepTurns.{met-mid, kept-some, idle-row}
+use Rattle.table_delete.proofs.SweepTurns.{met-mid}
 use Rattle.table_delete.proofs.FoundPlaces.{found-parted, found-linked, found-owned, found-down, found-strike}
 use Rattle.table_delete.proofs.Removals.{remove-descend}
-
--- The entry x of rank n stays, whatever follows it, and nothing is asked of the entry before it. Above level 0 its page stays too.
-pub record Quiet (e P n : ℕ) (b : List ℕ) (x : Ref) (bs : List ℕ) (τ : ℕ) (b′ : List ℕ) : Type 0 where
-  pub kept : Kept (layoutOf e) P n b (met n (pagesAt (layoutOf e) b) x) b′ (x ∷ [])
-  pub left : (ν : ℕ) → deleteNumbered n ν bs τ (numberedAt 65535 n (pagesAt (layoutOf e) b) x) ≡ (numberedAt 65535 n (pagesAt (layoutOf e) b′) x ∷ [], Idle)
-  pub page : 2 ≤ n → pagesAt (layoutOf e) b′ (x .1) ≡ pagesAt (layoutOf e) b (x .1)
 
 module _ {e P n : ℕ} {b : List ℕ} {x : Ref} {w key position τ : ℕ} (h : RemovePre e P (suc n) b x w key position) (s : Spot) (a : Stopped w key position τ (pagesAt (layoutOf e) b (x .1)) s) where
   abbrev L : Layout
@@ -74,7 +70,7 @@ module _ {e P n : ℕ} {b : List ℕ} {x : Ref} {w key position τ : ℕ} (h : R
   apart : met n pages y (x .1) ≡ 0
   apart = omega (arith, h .back .own (x .1), opened (x .1), same-self (x .1), met-mid (λ z. met n pages z (x .1)) front y rest)
 
-  module _ (b′ : List ℕ) (q : Quiet e P n b y (leftFrom w key (s .position)) (s .trail) b′) where
+  module _ (ν : ℕ) (b′ : List ℕ) (q : Quiet e P n b y (leftFrom w key (s .position)) (s .trail) (followingAt n pages ν rest) b′) where
     abbrev pages′ : Pages
     pages′ = pagesAt L b′
 
@@ -119,13 +115,20 @@ module _ {e P n : ℕ} {b : List ℕ} {x : Ref} {w key position τ : ℕ} (h : R
     front-linked : All (Linked L P n b) front
     front-linked = all-left (Linked L P n b) front (y ∷ rest) linked
 
+    -- The entry before, if the page has one, ends at the depth that is not above.
+    front-calm : Calm (lastDepth depthOf τ front) (q .asked)
+    front-calm = subst (λ (t : ℕ). Calm t (q .asked)) (sym (a .trail)) (q .calm)
+
+    abbrev asks : Unwind
+    asks = askedPast front (q .asked)
+
     -- The row of the page with the entry found as it reads now.
-    swept : (ν : ℕ) → strikeIn (numberedDepth n) (numberedLeaves n) (stepNumbered n) (deleteNumbered n) ν (leftFrom w key position) τ (numbersAt n pages row) ≡ (numbersAt n pages′ row, Idle)
-    swept ν =
+    swept : strikeIn (numberedDepth n) (numberedLeaves n) (stepNumbered n) (deleteNumbered n) ν (leftFrom w key position) τ (numbersAt n pages row) ≡ (numbersAt n pages′ row, asks)
+    swept =
         found-strike h s a ν (followingAt n pages ν rest) refl
-        ∙ ap (λ (o : Left (Numbered n)). sweep (stepNumbered n) (o .1) (numbersAt n pages front) (o .0 ++ numbersAt n pages rest)) (q .left (followingAt n pages ν rest))
-        ∙ idle-row L P b n front front-linked (numberedAt 65535 n pages′ y ∷ numbersAt n pages rest)
-        ∙ ap (λ (l : List (Numbered n)). (l, Idle))
+        ∙ ap (λ (o : Left (Numbered n)). sweep (stepNumbered n) (o .1) (numbersAt n pages front) (o .0 ++ numbersAt n pages rest)) (q .left)
+        ∙ calm-row L P b n front front-linked τ (q .asked) front-calm (numberedAt 65535 n pages′ y ∷ numbersAt n pages rest)
+        ∙ ap (λ (l : List (Numbered n)). (l, asks))
         (ap₂ (λ (l m : List (Numbered n)). l ++ numberedAt 65535 n pages′ y ∷ m) (sym (fronts .numbereds 65535)) (sym (rests .numbereds 65535))
         ∙ sym (map-append (numberedAt 65535 n pages′) front (y ∷ rest)) ∙ ap (numbersAt n pages′) (sym parted))
 
@@ -133,20 +136,31 @@ module _ {e P n : ℕ} {b : List ℕ} {x : Ref} {w key position τ : ℕ} (h : R
     some-numbers = omega (arith, length-map row (numberedAt 65535 n pages′), h .sound .0 .some)
 
     -- One level up.
-    pub quiet-up : Quiet e P (suc n) b x (leftFrom w key position) τ b′
+    pub quiet-up : Quiet e P (suc n) b x (leftFrom w key position) τ ν b′
     unfolding numberedAt
     quiet-up = record {
       kept = up-kept;
-      left = λ ν.
-          ap (λ (o : Left (Numbered n)). (keptUnder (x .1) (o .0), o .1)) (swept ν)
-          ∙ ap (λ (l : List (Numbered (suc n))). (l, Idle)) (kept-some L P b (x .1) (numbersAt n pages′ row) some-numbers ∙ ap (λ (l : List Ref). (x .1, numbersAt n pages′ l) ∷ []) (sym row-same));
+      asked = asks;
+      calm = past-calm τ front (q .asked) front-calm;
+      left =
+          ap (λ (o : Left (Numbered n)). (keptUnder (x .1) (o .0), o .1)) swept
+          ∙ ap (λ (l : List (Numbered (suc n))). (l, asks)) (kept-some (x .1) (numbersAt n pages′ row) some-numbers ∙ ap (λ (l : List Ref). (x .1, numbersAt n pages′ l) ∷ []) (sym row-same));
       page = λ k. row-same;
     }
 
 -- ---- the page of level 0
 
+-- The depth that follows there is that of the next entry.
+pub next-leaf : (pages : Pages) (ν : ℕ) (row : List Ref) → nextDepth ν (leafRow row) ≡ followingAt 0 pages ν row
+unfolding nodeAt
+next-leaf pages ν [] = refl
+next-leaf pages ν (y ∷ row) = refl
+
 module _ {e P : ℕ} {b : List ℕ} {x : Ref} {w key position τ : ℕ} (h : RemovePre e P 1 b x w key position) (s : Spot) (a : Stopped w key position τ (pagesAt (layoutOf e) b (x .1)) s)
-    (followed : suc (s .at) < length (pagesAt (layoutOf e) b (x .1))) (b′ : List ℕ) (d : NearDone e b (x .1) (s .at) (struckAt (pagesAt (layoutOf e) b (x .1)) (s .at) (s .trail)) b′) where
+    (ν : ℕ) (b′ : List ℕ) (struck : StruckNear e b (x .1) (s .at) (s .trail) τ ν b′) where
+  abbrev d : NearDone e b (x .1) (s .at) τ (struck .of-entry) b′
+  d = struck .done
+
   abbrev leafPages : Pages
   leafPages = pagesAt (layoutOf e) b
 
@@ -177,14 +191,11 @@ module _ {e P : ℕ} {b : List ℕ} {x : Ref} {w key position τ : ℕ} (h : Rem
   entry-is : entryFor (x .1) new ≡ x ∷ []
   entry-is = entry-some (x .1) (x .0) new (d .some) (h .back .linked .1 ∙ sym (d .last))
 
-  -- The depth that follows is that of the next entry.
-  next-is : (ν : ℕ) → getD old (suc (s .at)) (0, 0) .0 ≡ followingAt 0 leafPages ν (drop (suc (s .at)) old)
-  unfolding nodeAt
-  next-is ν = sym (ap (followingAt 0 leafPages ν) (drop-cons old (suc (s .at)) (0, 0) followed))
-
-  leaf-swept : (ν : ℕ) → strikeIn (numberedDepth 0) (numberedLeaves 0) (stepNumbered 0) (deleteNumbered 0) ν (leftFrom w key position) τ (numbersAt 0 leafPages old) ≡ (numbersAt 0 leafPages new, Idle)
+  leaf-swept : strikeIn (numberedDepth 0) (numberedLeaves 0) (stepNumbered 0) (deleteNumbered 0) ν (leftFrom w key position) τ (numbersAt 0 leafPages old) ≡ (numbersAt 0 leafPages new, d .asked)
   unfolding numberedAt
-  leaf-swept ν = found-strike h s a ν (getD old (suc (s .at)) (0, 0) .0) (next-is ν) ∙ d .left
+  leaf-swept =
+      found-strike h s a ν (nextDepth ν (leafRow (drop (suc (s .at)) old))) (next-leaf leafPages ν (drop (suc (s .at)) old))
+      ∙ ap (λ (o : Left Entry). sweep stepEntry (o .1) (leafRow (take (s .at) old)) (o .0 ++ leafRow (drop (suc (s .at)) old))) (struck .struck) ∙ d .left
 
   kept-page : Kept (layoutOf e) P 1 b (met 1 leafPages x) b′ (x ∷ [])
   kept-page = rw (stored-is, ← entry-is) (settled-kept e P 0 b x (h .back .linked .0 .number) (h .back .own) b new leaf-kept within (d .few) (d .fitting))
@@ -195,15 +206,17 @@ module _ {e P : ℕ} {b : List ℕ} {x : Ref} {w key position τ : ℕ} (h : Rem
       (ap (λ (t : List ℕ). numbersAt 1 (pagesAt (layoutOf e) t) (x ∷ [])) stored-is ∙ ap (numbersAt 1 (pagesAt (layoutOf e) (settled e 0 b (x .1) new))) (sym entry-is)
       ∙ settled-numbers e P 0 b x (h .back .linked .0 .number) (h .back .own) b new leaf-kept within (d .few) (d .fitting))
 
-  whole-left : (ν : ℕ) → deleteNumbered 1 ν (leftFrom w key position) τ (numberedAt 65535 1 leafPages x) ≡ (keptUnder (x .1) (numbersAt 0 leafPages new), Idle)
+  whole-left : deleteNumbered 1 ν (leftFrom w key position) τ (numberedAt 65535 1 leafPages x) ≡ (keptUnder (x .1) (numbersAt 0 leafPages new), d .asked)
   unfolding numberedAt
-  whole-left ν = ap (λ (o : Left (Numbered 0)). (keptUnder (x .1) (o .0), o .1)) (leaf-swept ν)
+  whole-left = ap (λ (o : Left (Numbered 0)). (keptUnder (x .1) (o .0), o .1)) leaf-swept
 
-  -- Its parent's entry stays, and nothing is asked.
-  pub quiet-leaf : Quiet e P 1 b x (leftFrom w key position) τ b′
+  -- Its parent's entry stays.
+  pub quiet-leaf : Quiet e P 1 b x (leftFrom w key position) τ ν b′
   quiet-leaf = record {
     kept = kept-page;
-    left = λ ν. whole-left ν ∙ ap (λ (l : List (Numbered 1)). (l, Idle)) numbers-are;
+    asked = d .asked;
+    calm = d .calm;
+    left = whole-left ∙ ap (λ (l : List (Numbered 1)). (l, d .asked)) numbers-are;
     page = λ k. absurd (omega arith);
   }
 
@@ -220,9 +233,11 @@ way-page zero τ leaf h a = record { sized = rw (a .page-is) (h .sound .0); insi
 way-page (suc n) τ leaf h a = way-page n (a .0 .trail) leaf (found-down h (a .0) (a .1)) (a .2)
 
 -- Every entry on the way stays.
-pub way-quiet : (n : ℕ) {e P : ℕ} {b : List ℕ} {x : Ref} {w key position : ℕ} (τ : ℕ) (leaf : Leaf) → RemovePre e P (suc n) b x w key position
-    → Way w key (pagesAt (layoutOf e) b) n (x .1) position τ leaf → suc (leaf .at) < length (pagesAt (layoutOf e) b (leaf .page .0)) → (b′ : List ℕ)
-    → NearDone e b (leaf .page .0) (leaf .at) (struckAt (pagesAt (layoutOf e) b (leaf .page .0)) (leaf .at) (leaf .trail)) b′ → Quiet e P (suc n) b x (leftFrom w key position) τ b′
-way-quiet zero τ leaf h a l b′ d =
-    quiet-leaf h (record { at = leaf .at; position = leaf .position; trail = leaf .trail }) (a .place) (rw (a .page-is) at l) b′ (rw (a .page-is) at d)
-way-quiet (suc n) τ leaf h a l b′ d = quiet-up h (a .0) (a .1) b′ (way-quiet n (a .0 .trail) leaf (found-down h (a .0) (a .1)) (a .2) l b′ d)
+pub way-quiet : (n : ℕ) {e P : ℕ} {b : List ℕ} {x : Ref} {w key position : ℕ} (τ ν : ℕ) (leaf : Leaf) → RemovePre e P (suc n) b x w key position
+    → Way w key (pagesAt (layoutOf e) b) n (x .1) position τ leaf → (b′ : List ℕ)
+    → ((μ : ℕ) → StruckNear e b (leaf .page .0) (leaf .at) (leaf .trail) (leaf .before) μ b′) → Quiet e P (suc n) b x (leftFrom w key position) τ ν b′
+way-quiet zero τ ν leaf h a b′ d =
+    quiet-leaf h (record { at = leaf .at; position = leaf .position; trail = leaf .trail }) (a .place) ν b′ (rw (a .page-is, a .before-is) at (d ν))
+way-quiet (suc n) {e} {P} {b} {x} τ ν leaf h a b′ d =
+    quiet-up h (a .0) (a .1) ν b′
+    (way-quiet n (a .0 .trail) (followingAt (suc n) (pagesAt (layoutOf e) b) ν (drop (suc (a .0 .at)) (pagesAt (layoutOf e) b (x .1)))) leaf (found-down h (a .0) (a .1)) (a .2) b′ d)

@@ -1,10 +1,12 @@
 -- The entries of a page of level 0 that stay where dummies go from the right. Assumes nothing.
-use mathlib.Core.Path.{_≡_, refl, sym, ap, _∙_}
+use mathlib.Core.Path.{_≡_, refl, sym, ap, ap₂, _∙_}
+use mathlib.Core.Bool.{false}
 use mathlib.Core.List.{List, [], _∷_, _++_, append-assoc, map-append}
-use Prim.Native.Nat.{ℕ, suc, _-_, _≤_, _<_}
+use Prim.Native.Nat.{ℕ, zero, suc, _-_, _≤_, _<_}
 use native.Mathlib.Omega.{arith}
+use lib.Dec.{ltb}
 use lib.ListN.{length, take}
-use borrow.Author.Tests.{lt-ltb, le-ltb, eq-eqb, ne-eqb}
+use borrow.Author.Tests.{ltb-false, lt-ltb, le-ltb, eq-eqb, ne-eqb}
 use Rattle.leaf_list.specs.Entries.{Entry}
 use Rattle.page_tree.specs.declared.Unwind.{Unwind}
 use Rattle.page_tree.specs.declared.Unwind.the-variants.{Idle, Clear}
@@ -13,7 +15,7 @@ use Rattle.page_tree.proofs.WalkPlaces.{sweep-append}
 use Rattle.index_table.specs.Layout.{layoutOf, Ref, pageBytes, refAt}
 use Rattle.index_table.specs.Pages.{pagesAt, leafOf}
 use Rattle.index_table.proofs.PageRows.{length-refs, take-refs}
-use Rattle.table_delete.specs.OnePage.{leafRow, Staying}
+use Rattle.table_delete.specs.OnePage.{leafRow, Calm, askedBefore, Staying}
 
 -- ---- one entry on the way back
 
@@ -54,7 +56,23 @@ going-none row n g = record { few = omega arith; gone = λ ys. refl }
 
 -- All have gone.
 pub going-all : {row : List Ref} {n g i : ℕ} → Going row n g i → i ≤ 0 → Staying row n g i
-going-all h z = record { few = h .few; swept = λ l. absurd (omega arith) }
+going-all {i = zero} h z = record { few = h .few; swept = h .gone }
+going-all {i = suc i} h z = absurd (omega arith)
+
+-- An entry that stays is the last that is asked.
+asked-some : (g r : ℕ) → 1 ≤ r → askedBefore g r ≡ Idle
+asked-some g zero l = absurd (omega arith)
+asked-some g (suc r) l = refl
+
+-- Where an entry of the page stays, the page before is asked nothing,
+pub some-calm : (τ g r : ℕ) → 1 ≤ r → Calm τ (askedBefore g r)
+some-calm τ g zero l = absurd (omega arith)
+some-calm τ g (suc r) l = tt
+
+-- and where none does, nothing there changes if it ends at a depth that is not above g.
+pub low-calm : (τ g r : ℕ) {d : ℕ} → d ≡ g → ltb d τ ≡ false → Calm τ (askedBefore g r)
+low-calm τ g zero {d} z l = omega (arith, z, ltb-false d τ l)
+low-calm τ g (suc r) z l = tt
 
 module _ (e : ℕ) (b : List ℕ) (p : ℕ) {n g i : ℕ} (h : Going (pagesAt (layoutOf e) b p) n g i) (some : 0 < i) (inside : n ≤ length (pagesAt (layoutOf e) b p)) where
   abbrev page : List ℕ
@@ -79,13 +97,14 @@ module _ (e : ℕ) (b : List ℕ) (p : ℕ) {n g i : ℕ} (h : Going (pagesAt (l
   stays : stepEntry (Clear g) (leafOf 65535 x) ≡ (leafOf 65535 x ∷ [], Idle) → Staying (pagesAt (layoutOf e) b p) n g i
   stays s = record {
     few = h .few;
-    swept = λ l ys.
+    swept = λ ys.
         h .gone ys ∙ ap (λ (r : List Ref). sweep stepEntry (Clear g) (leafRow r) ys) last-is
         ∙ sweep-last (Clear g) (take (i - 1) (pagesAt (layoutOf e) b p)) x ys (leafOf 65535 x ∷ [], Idle) s
         ∙ idle-leaves (leafRow (take (i - 1) (pagesAt (layoutOf e) b p))) (leafOf 65535 x ∷ ys)
-        ∙ ap (λ (r : List Entry). (r, Idle))
+        ∙ ap₂ (λ (r : List Entry) (s : Unwind). (r, s))
         (sym (append-assoc (leafRow (take (i - 1) (pagesAt (layoutOf e) b p))) (leafOf 65535 x ∷ []) ys)
-        ∙ ap (λ (r : List Entry). r ++ ys) (sym (map-append (leafOf 65535) (take (i - 1) (pagesAt (layoutOf e) b p)) (x ∷ [])) ∙ ap leafRow (sym last-is)));
+        ∙ ap (λ (r : List Entry). r ++ ys) (sym (map-append (leafOf 65535) (take (i - 1) (pagesAt (layoutOf e) b p)) (x ∷ [])) ∙ ap leafRow (sym last-is)))
+        (sym (asked-some g i (omega arith)));
   }
 
   -- A live entry stays.

@@ -1,9 +1,9 @@
 -- The loop over the row of a page from the right: what is left to do equals the whole. Assumes nothing.
 use mathlib.Core.Path.{_≡_, refl, sym, ap, ap₂, _∙_}
-use mathlib.Core.List.{List, [], _∷_, _++_, append-assoc, append-nil, map-append}
-use Prim.Native.Nat.{ℕ, zero, suc, _+_, _-_, _≤_, _<_}
+use mathlib.Core.List.{List, [], _∷_, _++_, append-assoc, map-append}
+use Prim.Native.Nat.{ℕ, suc, _+_, _-_, _≤_, _<_}
 use native.Mathlib.Omega.{arith}
-use lib.ListN.{length, getD, take, drop, length-map}
+use lib.ListN.{length, getD, take, drop}
 use lib.Seq.{take-suc}
 use Rattle.page_tree.specs.Rows.{All, sum}
 use Rattle.page_tree.specs.Row.{rowOf, Holds}
@@ -11,7 +11,7 @@ use Rattle.page_tree.specs.declared.Row.{Row}
 use Rattle.page_tree.specs.declared.Unwind.{Unwind}
 use Rattle.page_tree.specs.declared.Unwind.the-variants.{Idle}
 use Rattle.page_tree.specs.OffPages.{Left, sweep}
-use Rattle.page_tree.specs.Numbered.{Numbered, keptUnder, stepNumbered}
+use Rattle.page_tree.specs.Numbered.{Numbered, stepNumbered}
 use Rattle.page_tree.proofs.ListLaws.{all-left, all-right}
 use Rattle.page_tree.proofs.WalkPlaces.{sweep-append}
 use Rattle.index_table.specs.Layout.{Layout, layoutOf, Ref}
@@ -24,32 +24,8 @@ use Rattle.table_delete.specs.Keeping.{numbersAt, Linked, Paged, Kept}
 use Rattle.table_delete.specs.Entries.{parts}
 use Rattle.table_delete.specs.Rows.{around, PutPost}
 use Rattle.table_delete.specs.Unwinding.{BackPre, BackPost, SweepPre, sweepAt, SweepPost}
+use Rattle.table_delete.proofs.CalmRows.{idle-row}
 use Rattle.table_delete.proofs.Frames.{kept-none, kept-owned, kept-then, kept-at, before-stays, after-stays}
-
--- ---- nothing is asked: nothing changes
-
-module _ (L : Layout) (P : ℕ) (b : List ℕ) where
-  idle-all : (n : ℕ) → ((x : Ref) → Linked L P n b x → stepNumbered n Idle (numberedAt 65535 n (pagesAt L b) x) ≡ (numberedAt 65535 n (pagesAt L b) x ∷ [], Idle))
-      → (row : List Ref) → All (Linked L P n b) row → (ys : List (Numbered n)) → sweep (stepNumbered n) Idle (numbersAt n (pagesAt L b) row) ys ≡ (numbersAt n (pagesAt L b) row ++ ys, Idle)
-  idle-all n f [] g ys = refl
-  idle-all n f (x ∷ row) g ys = rw (idle-all n f row (g .1) ys, f x (g .0)) refl
-
-  -- A page with entries is kept under its number.
-  pub kept-some : {A : Type 0} (p : ℕ) (xs : List A) → 1 ≤ length xs → keptUnder p xs ≡ (p, xs) ∷ []
-  kept-some p [] h = absurd (omega arith)
-  kept-some p (x ∷ xs) h = refl
-
-  idle-one : (n : ℕ) (x : Ref) → Linked L P n b x → stepNumbered n Idle (numberedAt 65535 n (pagesAt L b) x) ≡ (numberedAt 65535 n (pagesAt L b) x ∷ [], Idle)
-  unfolding numberedAt
-  idle-one zero x g = refl
-  idle-one (suc n) x g =
-      let row = pagesAt L b (x .1) in
-      rw (idle-all n (idle-one n) row (g .2) [], append-nil (numbersAt n (pagesAt L b) row))
-      (ap (λ (t : List (Numbered (suc n))). (t, Idle)) (kept-some (x .1) (numbersAt n (pagesAt L b) row) (omega (arith, length-map row (numberedAt 65535 n (pagesAt L b)), g .0 .some))))
-
-  -- All entries of a row stay.
-  pub idle-row : (n : ℕ) (row : List Ref) → All (Linked L P n b) row → (ys : List (Numbered n)) → sweep (stepNumbered n) Idle (numbersAt n (pagesAt L b) row) ys ≡ (numbersAt n (pagesAt L b) row ++ ys, Idle)
-  idle-row n row g ys = idle-all n (idle-one n) row g ys
 
 -- ---- lists
 

@@ -2,11 +2,10 @@
 use mathlib.Core.Path.{_≡_, refl, sym, ap, subst}
 use mathlib.Core.Bool.{true}
 use mathlib.Core.List.{List}
-use Prim.Native.Nat.{ℕ, zero, suc, _+_, _<_}
+use Prim.Native.Nat.{ℕ, zero, suc, _+_}
 use native.Mathlib.Omega.{arith}
 use native.Mathlib.Numerals.{add-one}
 use lib.ListN.{length}
-use Rattle.page_tree.specs.declared.Unwind.the-variants.{Idle}
 use Rattle.page_tree.specs.OffPages.{Left}
 use Rattle.page_tree.specs.Numbered.{Numbered}
 use Rattle.index_table.specs.Layout.{layoutOf, pageBytes}
@@ -18,13 +17,14 @@ use Rattle.index_table.proofs.PageBytes.{within-table}
 use Rattle.index_table.proofs.PageRows.{length-refs, refs-fit}
 use Rattle.index_table.proofs.WholePages.{cleared-whole}
 use Rattle.table_search.specs.declared.Leaf.{Leaf}
-use Rattle.table_search.specs.Places.{leftFrom}
+use Rattle.table_search.specs.Places.{leftFrom, NextPosition}
 use Rattle.table_delete.specs.declared.entries.Remnant.{Remnant}
 use Rattle.table_delete.specs.Removing.{RemovePre, RemovePost}
 use Rattle.table_delete.specs.Taking.{LowerPre, LowerPost, TakePre, TakeAtPre, TakePost}
-use Rattle.table_delete.specs.OnePage.{NearPre, NearDone, struckAt}
+use Rattle.table_delete.specs.OnePage.{NearPre, StruckNear}
+use Rattle.table_delete.specs.Blanking.{Quiet, BlankPre}
 use Rattle.table_delete.proofs.Lowering.{lower-leaf, lower-stop}
-use Rattle.table_delete.proofs.QuietWays.{Quiet, LeafPage, way-page, way-quiet}
+use Rattle.table_delete.proofs.QuietWays.{LeafPage, way-page, way-quiet}
 use Rattle.table_delete.proofs.TakingOut.{take-remove, take-lower, take-post}
 
 module _ {b : List ℕ} {e P level : ℕ} (root : PageNo) {w key : ℕ} {leaf : Leaf} (pre : TakeAtPre b e P level (root .0) w key leaf) (bytes : Bytes b) where
@@ -45,39 +45,48 @@ module _ {b : List ℕ} {e P level : ℕ} (root : PageNo) {w key : ℕ} {leaf : 
     inside = leaf-page .inside;
   }
 
-  module _ (b′ : List ℕ) (d : (suc (leaf .at) < length (pagesAt (layoutOf e) b (leaf .page .0))) × NearDone e b (leaf .page .0) (leaf .at) (struckAt (pagesAt (layoutOf e) b (leaf .page .0)) (leaf .at) (leaf .trail)) b′) where
-    quiet : Quiet e P (suc level) b (rootRef (root .0)) (leftFrom w key (pre .first)) 0 b′
-    quiet = way-quiet level 0 leaf remove-pre (pre .way) (d .0) b′ (d .1)
+  -- The page alone changes.
+  pub near-quiet : (b′ : List ℕ) → ((ν : ℕ) → StruckNear e b (leaf .page .0) (leaf .at) (leaf .trail) (leaf .before) ν b′) → Quiet e P (suc level) b (rootRef (root .0)) (leftFrom w key (pre .first)) 0 0 b′
+  near-quiet b′ d = way-quiet level 0 0 leaf remove-pre (pre .way) b′ d
 
-    -- What is left of the root's entry.
-    abbrev left : Remnant
-    left = record { stays = true; depth = 0; pointer = root .0; state = Idle }
+-- The entry found from the root down may become a dummy.
+pub take-blank : {b : List ℕ} {e P level : ℕ} (root : PageNo) {w key first : ℕ} → TakePre b e P level (root .0) w key → Bytes b → NextPosition w key 0 first
+    → BlankPre e P (suc level) b (rootRef (root .0)) w key first
+take-blank {level = level} root {first = first} pre bytes begins = record { remove = rw (add-one level) at (take-remove pre bytes first (root .0) begins refl); cleared = pre .tree .pages .cleared }
 
-    removed : RemovePost e P (level + 1) b (0, root .0) w key (pre .first) 0 0 b′ left
-    removed = rw (add-one level) (record {
-      kept = quiet .kept;
-      numbers = sym (ap (λ (o : Left (Numbered (suc level))). o .0) (quiet .left 0));
-      state = sym (ap (λ (o : Left (Numbered (suc level))). o .1) (quiet .left 0));
-    })
+-- ---- every page above level 0 stays
 
-    lower-pre : LowerPre e P level b′ (root .0)
-    lower-pre = take-lower (pre .take) (pre .begins) refl removed (root .0) refl
+module _ {b : List ℕ} {e P level : ℕ} (root : PageNo) {w key first : ℕ} (pre : TakePre b e P level (root .0) w key) (begins : NextPosition w key 0 first) (b′ : List ℕ)
+    (quiet : Quiet e P (suc level) b (rootRef (root .0)) (leftFrom w key first) 0 0 b′) where
+  -- What is left of the root's entry.
+  abbrev left : Remnant
+  left = record { stays = true; depth = 0; pointer = root .0; state = quiet .asked }
 
-    -- The root rule does nothing.
-    lowered : LowerPost e P level b′ (root .0) b′ (record { page = root; level = level })
-    lowered = go level refl lower-pre
-      where
-        go : (n : ℕ) → n ≡ level → LowerPre e P n b′ (root .0) → LowerPost e P n b′ (root .0) b′ (record { page = root; level = n })
-        go zero z h = lower-leaf zero root refl h
-        go (suc n) z h =
-            lower-stop (suc n) root (λ y. omega (arith, y)) h refl
-            (λ y. let k = pre .take .tree .pages .root-rule (omega (arith, z)) in
-            let same : length (pagesAt (layoutOf e) b′ (root .0)) ≡ length (pagesAt (layoutOf e) b (root .0)) = ap length (quiet .page (omega (arith, z))) in
-            omega (arith, y, k, same, length-refs (layoutOf e) (pageBytes (layoutOf e) b′ (root .0))))
+  removed : RemovePost e P (level + 1) b (0, root .0) w key first 0 0 b′ left
+  removed = rw (add-one level) (record {
+    kept = quiet .kept;
+    numbers = sym (ap (λ (o : Left (Numbered (suc level))). o .0) (quiet .left));
+    state = sym (ap (λ (o : Left (Numbered (suc level))). o .1) (quiet .left));
+  })
 
-    -- The tree without the entry found.
-    pub near-taken : TakePost b e P level (root .0) w key b′ (record { page = root; level = level })
-    near-taken = take-post (pre .take) (pre .begins) refl removed (root .0) refl b′ (record { page = root; level = level }) lowered
+  lower-pre : LowerPre e P level b′ (root .0)
+  lower-pre = take-lower pre begins refl removed (root .0) refl
+
+  -- The root rule does nothing.
+  lowered : LowerPost e P level b′ (root .0) b′ (record { page = root; level = level })
+  lowered = go level refl lower-pre
+    where
+      go : (n : ℕ) → n ≡ level → LowerPre e P n b′ (root .0) → LowerPost e P n b′ (root .0) b′ (record { page = root; level = n })
+      go zero z h = lower-leaf zero root refl h
+      go (suc n) z h =
+          lower-stop (suc n) root (λ y. omega (arith, y)) h refl
+          (λ y. let k = pre .tree .pages .root-rule (omega (arith, z)) in
+          let same : length (pagesAt (layoutOf e) b′ (root .0)) ≡ length (pagesAt (layoutOf e) b (root .0)) = ap length (quiet .page (omega (arith, z))) in
+          omega (arith, y, k, same, length-refs (layoutOf e) (pageBytes (layoutOf e) b′ (root .0))))
+
+  -- The tree without the entry found.
+  pub quiet-taken : TakePost b e P level (root .0) w key b′ (record { page = root; level = level })
+  quiet-taken = take-post pre begins refl removed (root .0) refl b′ (record { page = root; level = level }) lowered
 
 -- No byte was changed: the tree is as it was.
 pub far-pre : {b b₁ : List ℕ} {e P level root w key : ℕ} → b₁ ≡ b → TakePre b e P level root w key → TakePre b₁ e P level root w key

@@ -5,3 +5,4 @@ pub mod Unwinding
 pub mod Removing
 pub mod Taking
 pub mod OnePage
+pub mod Blanking

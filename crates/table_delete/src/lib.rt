@@ -2,12 +2,14 @@
 ghost use mathlib.Core.Path.{_≡_};
 ghost use Rattle.table_delete.specs.Taking.{LowerPre, LowerPost, TakePre, TakeAtPre, TakePost};
 
+pub mod blank;
 pub mod entries;
 pub mod near;
 pub mod removal;
 pub mod rows;
 pub mod unwinding;
 
+use crate::blank::blank;
 use crate::near::strike_near;
 use crate::removal::remove;
 use crate::rows::page_of;
@@ -76,7 +78,14 @@ pub fn take_out_at(
     requires { ⌜ TakeAtPre (now index) e pages level (root .0) w key leaf ⌝ }
     ensures { λ r. ⌜ TakePost (now (index .entry)) e pages level (root .0) w key (now (index .exit)) r ⌝ }
 {
-    if strike_near(index, e, leaf.page, leaf.at, leaf.trail) {
+    if strike_near(index, e, leaf.page, leaf.at, leaf.trail, leaf.before) {
+        return Root {
+            page: root,
+            level: level,
+        };
+    }
+    let position = next_position(w, key, 0);
+    if blank(index, e, pages, level, 0, root, w, key, position, 0, 0) {
         return Root {
             page: root,
             level: level,

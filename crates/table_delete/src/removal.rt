@@ -28,7 +28,7 @@ pub struct Place {
 }
 
 // The depth of the first entry on level 0 below an entry.
-fn first_depth(index: &[u8], e: u8, pages: u16, rank: u8, d: u8, p: u32) -> u8
+pub fn first_depth(index: &[u8], e: u8, pages: u16, rank: u8, d: u8, p: u32) -> u8
     requires { ⌜ FirstPre e pages rank (now index) (d, p) ⌝ }
     ensures { λ r. ⌜ FirstPost rank (pagesAt (layoutOf e) (now (index .entry))) (d, p) r ⌝ }
 {

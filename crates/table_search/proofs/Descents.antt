@@ -137,7 +137,7 @@ module _ {b : List ℕ} {e P n page w key position : ℕ} (pre : DescendPre b e 
 -- On level 0 the entry is the answer.
 pub descend-leaf : {b : List ℕ} {e P page w key position τ : ℕ} (n : ℕ) (pre : DescendPre b e P n page w key position) (s : Spot) → Stopped w key position τ (pagesAt (layoutOf e) b page) s → n ≡ 0
     → (own : PageNo) → own .0 ≡ page → (d p : ℕ) → d ≡ refAt (layoutOf e) (pageBytes (layoutOf e) b page) (s .at) .0 → p ≡ refAt (layoutOf e) (pageBytes (layoutOf e) b page) (s .at) .1 → p ≤ 65535
-    → Descended w key position τ n (pagesAt (layoutOf e) b) page (record { page = own; at = s .at; depth = d; pointer = p; position = s .position; trail = s .trail })
+    → Descended w key position τ n (pagesAt (layoutOf e) b) page (record { page = own; at = s .at; depth = d; pointer = p; position = s .position; trail = s .trail; before = τ })
 unfolding nodeAt
 descend-leaf (suc n) pre s stop z own ho d p hd hp l = absurd (omega arith)
 descend-leaf {b} {e} {P} {page} {w} {key} {position} {τ} zero pre s stop z own ho d p hd hp l =
@@ -145,7 +145,7 @@ descend-leaf {b} {e} {P} {page} {w} {key} {position} {τ} zero pre s stop z own 
     record {
       found = descend-step pre s stop ∙ ap (λ (x : Ref). (leftFrom w key (s .position), s .trail, entry (x .0) (recordOf 65535 (x .1)))) (sym q ∙ λ i. (sym hd i, sym hp i));
       pointer-high = l;
-      way = record { page-is = ho; place = stop; entry-is = sym q ∙ λ i. (sym hd i, sym hp i) };
+      way = record { page-is = ho; place = stop; entry-is = sym q ∙ λ i. (sym hd i, sym hp i); before-is = refl };
     }
 
 -- Above it, the child is a page of the way down, and what is found below it is what is found.

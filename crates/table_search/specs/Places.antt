@@ -90,11 +90,12 @@ pub record DescendPre (b : List ℕ) (e P n page w key position : ℕ) : Type 0 
   pub narrow : key < 2 ^ w
   pub high : position ≤ w + 1
 
--- The place found in a page of level 0.
+-- The place found in a page of level 0, with the depth τ before the page.
 pub record Ends (w key position τ page : ℕ) (row : List Ref) (r : Leaf) : Type 0 where
   pub page-is : r .page .0 ≡ page
   pub place : Stopped w key position τ row (record { at = r .at; position = r .position; trail = r .trail })
   pub entry-is : getD row (r .at) (0, 0) ≡ (r .depth, r .pointer)
+  pub before-is : r .before ≡ τ
 
 -- The way from a page of level n down to the entry found: the place in each page, and the page below it.
 abbrev pub Way : ℕ → ℕ → Pages → ℕ → ℕ → ℕ → ℕ → Leaf → Type 0

@@ -20,7 +20,7 @@ pub struct Spot {
     pub trail: u64,
 }
 
-// An entry on level 0: its page and its place there, what stands there, the next position and the depth before it.
+// An entry on level 0: its page and its place there, what stands there, the next position, the depth before it, and the depth before its page.
 pub struct Leaf {
     pub page: PageNo,
     pub at: usize,
@@ -28,6 +28,7 @@ pub struct Leaf {
     pub pointer: u32,
     pub position: u64,
     pub trail: u64,
+    pub before: u64,
 }
 
 // The bits of a key of w bits behind the first p.
@@ -154,6 +155,7 @@ pub fn descend(
             pointer: pointer(index, e, page, at),
             position: s.position,
             trail: s.trail,
+            before: trail,
         };
     }
     let below = child(index, e, page, at);

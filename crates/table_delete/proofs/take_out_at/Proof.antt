@@ -1,6 +1,7 @@
--- The page alone, or from the root down. Assumes nothing.
+-- The page alone, the entry alone, or from the root down. Assumes nothing.
+use mathlib.Core.Path.{_∙_}
 use native.Mathlib.Omega.{arith}
-use Rattle.table_delete.proofs.TakingAt.{take-near, near-taken, far-pre, far-post}
+use Rattle.table_delete.proofs.TakingAt.{take-near, near-quiet, take-blank, quiet-taken, far-pre, far-post}
 use borrow.Author.Needs.{needs}
 use Rattle.table_delete.proofs.take_out_at.Statement.{statement}
 use Rattle.table_delete.proofs.take_out_at.Tie as tie
@@ -17,22 +18,63 @@ returns : tie.Need-returns
 returns c =
     let struck = c .before .before .before in
     let known = struck .before .before in
-    near-taken _ (known .before .pre) (λ i. omega (arith, known .slice-known .given i)) _ (struck .strike-near .ensures .done (c .if1 .taken))
+    let pre = known .before .pre in
+    quiet-taken _ (pre .take) (pre .begins) _ (near-quiet _ pre (λ i. omega (arith, known .slice-known .given i)) _ (struck .strike-near .ensures .done (c .if1 .taken)))
 
-take-out-requires : tie.Need-take-out-requires
-take-out-requires c κs =
-    let struck = c .before .before .before .before in
-    far-pre (struck .strike-near .ensures .none (c .before .if1 .left)) (struck .before .before .before .pre .take)
+next-position-requires : tie.Need-next-position-requires
+next-position-requires c κs =
+    let pre = c .before .before .before .before .before .before .pre in
+    (pre .take .tree .width, omega arith, pre .take .narrow)
+
+blank-requires : tie.Need-blank-requires
+blank-requires c κs =
+    let tested = c .before .before in
+    let known = tested .before in
+    let struck = known .before .before in
+    take-blank _ (far-pre (struck .strike-near .ensures .none (tested .if1 .left)) (struck .before .before .before .pre .take)) (λ i. omega (arith, known .slice-known2 .given i)) (c .before .next-position .ensures)
 
 same-length-2 : tie.Need-same-length-2
 same-length-2 c = search needs
 
 returns-2 : tie.Need-returns-2
 returns-2 c =
-    let tested = c .before .before .before .before in
-    far-post (tested .before .before .before .strike-near .ensures .none (tested .if1 .left)) (c .before .before .take-out .ensures)
+    let blank = c .before .before .before in
+    let next = blank .before .before in
+    let tested = next .before in
+    let struck = tested .before .before .before in
+    let same = struck .strike-near .ensures .none (tested .if1 .left) in
+    far-post same (quiet-taken _ (far-pre same (struck .before .before .before .pre .take)) (next .next-position .ensures) _ (blank .blank .ensures .done (c .if2 .taken)))
+
+take-out-requires : tie.Need-take-out-requires
+take-out-requires c κs =
+    let blanked = c .before in
+    let blank = blanked .before .before .before in
+    let tested = blank .before .before .before in
+    let struck = tested .before .before .before in
+    far-pre (blank .blank .ensures .none (blanked .if2 .left) ∙ struck .strike-near .ensures .none (tested .if1 .left)) (struck .before .before .before .pre .take)
+
+same-length-3 : tie.Need-same-length-3
+same-length-3 c = search needs
+
+returns-3 : tie.Need-returns-3
+returns-3 c =
+    let blanked = c .before .before .before .before in
+    let blank = blanked .before .before .before in
+    let tested = blank .before .before .before in
+    let struck = tested .before .before .before in
+    far-post (blank .blank .ensures .none (blanked .if2 .left) ∙ struck .strike-near .ensures .none (tested .if1 .left)) (c .before .before .take-out .ensures)
 
 pub take-out-at-spec : {M : Type 1} → statement M
 take-out-at-spec =
     tie.close
-    (tie.spec strike-near-requires same-length returns take-out-requires same-length-2 returns-2)
+    (tie.spec
+    strike-near-requires
+    same-length
+    returns
+    next-position-requires
+    blank-requires
+    same-length-2
+    returns-2
+    take-out-requires
+    same-length-3
+    returns-3)

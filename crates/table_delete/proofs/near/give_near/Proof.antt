@@ -8,11 +8,14 @@ use Rattle.table_delete.proofs.near.give_near.Tie as tie
 returns : tie.Need-returns
 returns c = near-none
 
-sub-before : tie.Need-sub-before
-sub-before c = search needs
+sub-last : tie.Need-sub-last
+sub-last c = search needs
 
 staying-requires : tie.Need-staying-requires
 staying-requires c κs = search needs
+
+reaches-back-requires : tie.Need-reaches-back-requires
+reaches-back-requires c κs = search needs
 
 same-length : tie.Need-same-length
 same-length c = search needs
@@ -31,10 +34,10 @@ close-requires c κs =
     let replaced = c .before .before .before in
     let read = replaced .before .before in
     let tested = read .before .before in
-    let stays = tested .before in
+    let stays = tested .before .before in
     let first = stays .before .before in
     let start = first .before .before in
-    give-close (start .pre) (first .if1 .left) (stays .staying .ensures) (tested .if2 .left) (omega (arith, read .pointer .ensures .1)) _ (replaced .replace-entry .ensures)
+    give-close (start .pre .near) (start .pre .depth-is) (first .if1 .left) (stays .staying .ensures) (omega (arith, read .pointer .ensures .1)) _ (replaced .replace-entry .ensures)
 
 same-length-2 : tie.Need-same-length-2
 same-length-2 c = search needs
@@ -44,18 +47,19 @@ returns-3 c =
     let replaced = c .before .before .before .before .before .before in
     let read = replaced .before .before in
     let tested = read .before .before in
-    let stays = tested .before in
+    let stays = tested .before .before in
     let first = stays .before .before in
     let start = first .before .before in
-    near-some (give-done (start .pre) (first .if1 .left) (stays .staying .ensures) (tested .if2 .left) (omega (arith, read .pointer .ensures .1)) _ (replaced .replace-entry .ensures) (read .pointer .ensures .0) _ (c .before .before .close .ensures))
+    near-some (give-done (start .pre .near) (start .pre .depth-is) (first .if1 .left) (stays .staying .ensures) (omega (arith, read .pointer .ensures .1)) _ (replaced .replace-entry .ensures) (read .pointer .ensures .0) (tested .before .reaches-back .ensures (tested .if2 .left)) _ (c .before .before .close .ensures))
 
 pub give-near-spec : {M : Type 1} → statement M
 give-near-spec =
     tie.close
     (tie.spec
     returns
-    sub-before
+    sub-last
     staying-requires
+    reaches-back-requires
     same-length
     returns-2
     pointer-requires

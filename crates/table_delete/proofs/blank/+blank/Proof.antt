@@ -1,0 +1,273 @@
+-- Level by level: the page is searched, and on level 0 the entry may become a dummy. Assumes nothing.
+use native.Mathlib.Omega.{arith}
+use Rattle.table_delete.proofs.Blanks.{blank-seek, blank-beside, blank-read, blank-few, blank-give, blank-struck, blank-down, blank-up}
+use borrow.Author.Needs.{needs}
+use Prim.Native.Nat.{ℕ, _<_}
+use borrow.Fn.Kinds.{In}
+use borrow.Fn.PlainCycle.{Measures, is, falls, and}
+use Rattle.table_delete.proofs.blank.blank.Reads as blank
+use Rattle.table_delete.proofs.blank.blank.Kinds as blank-kinds
+use Rattle.table_delete.proofs.blank.+blank.Lts-blank as blank-lts
+use Rattle.index_table.proofs.layout.child.Reads as child-reads
+use Rattle.index_table.proofs.layout.depth.Reads as depth-reads
+use Rattle.table_delete.proofs.blank.beside.Reads as beside-reads
+use Rattle.table_delete.proofs.blank.blank_entry.Reads as blank-entry-reads
+use Rattle.table_search.proofs.seek.Reads as seek-reads
+use Rattle.table_delete.proofs.blank.+blank.{statement}
+use Rattle.table_delete.proofs.blank.+blank.Tie.{close}
+
+abbrev μ-blank : Measures 1 blank-kinds.ps ℕ
+μ-blank κs a = a .1 .1 .1 .0
+
+abbrev blank-at : ℕ → In 1 blank-kinds.ps
+blank-at t = and 1 blank-kinds.ps (is 1 blank-kinds.ps μ-blank t) blank.Pre
+
+abbrev blank-below : ℕ → In 1 blank-kinds.ps
+blank-below t = and 1 blank-kinds.ps (falls 1 blank-kinds.ps _<_ μ-blank t) blank.Pre
+
+blank-seek-requires : (t : ℕ) → blank-lts.Need-seek-requires (
+  seek-reads.Asked,
+  seek-reads.Learnt,
+  beside-reads.Asked,
+  beside-reads.Learnt,
+  depth-reads.Asked,
+  depth-reads.Learnt,
+  blank-entry-reads.Asked,
+  blank-entry-reads.Learnt,
+  child-reads.Asked,
+  child-reads.Learnt,
+  blank-below t,
+  blank.Post,
+) (blank-at t) blank.Post
+blank-seek-requires t c κs = blank-seek (c .before .before .pre .1)
+
+blank-add-beside : (t : ℕ) → blank-lts.Need-add-beside (
+  seek-reads.Asked,
+  seek-reads.Learnt,
+  beside-reads.Asked,
+  beside-reads.Learnt,
+  depth-reads.Asked,
+  depth-reads.Learnt,
+  blank-entry-reads.Asked,
+  blank-entry-reads.Learnt,
+  child-reads.Asked,
+  child-reads.Learnt,
+  blank-below t,
+  blank.Post,
+) (blank-at t) blank.Post
+blank-add-beside t c = let k = blank-few (c .before .before .before .before .pre .1) _ (c .before .seek .ensures) in omega (arith, k, c .before .before .before .before .fits .e)
+
+blank-beside-requires : (t : ℕ) → blank-lts.Need-beside-requires (
+  seek-reads.Asked,
+  seek-reads.Learnt,
+  beside-reads.Asked,
+  beside-reads.Learnt,
+  depth-reads.Asked,
+  depth-reads.Learnt,
+  blank-entry-reads.Asked,
+  blank-entry-reads.Learnt,
+  child-reads.Asked,
+  child-reads.Learnt,
+  blank-below t,
+  blank.Post,
+) (blank-at t) blank.Post
+blank-beside-requires t c κs = blank-beside (c .before .before .before .before .pre .1)
+
+blank-depth-requires : (t : ℕ) → blank-lts.Need-depth-requires (
+  seek-reads.Asked,
+  seek-reads.Learnt,
+  beside-reads.Asked,
+  beside-reads.Learnt,
+  depth-reads.Asked,
+  depth-reads.Learnt,
+  blank-entry-reads.Asked,
+  blank-entry-reads.Learnt,
+  child-reads.Asked,
+  child-reads.Learnt,
+  blank-below t,
+  blank.Post,
+) (blank-at t) blank.Post
+blank-depth-requires t c κs =
+    let seek = c .before .before .before in
+    blank-read (seek .before .before .before .pre .1) _ (seek .seek .ensures)
+
+blank-blank-entry-requires : (t : ℕ) → blank-lts.Need-blank-entry-requires (
+  seek-reads.Asked,
+  seek-reads.Learnt,
+  beside-reads.Asked,
+  beside-reads.Learnt,
+  depth-reads.Asked,
+  depth-reads.Learnt,
+  blank-entry-reads.Asked,
+  blank-entry-reads.Learnt,
+  child-reads.Asked,
+  child-reads.Learnt,
+  blank-below t,
+  blank.Post,
+) (blank-at t) blank.Post
+blank-blank-entry-requires t c κs =
+    let depth = c .before .before in
+    let seek = depth .before .before .before .before in
+    let known = seek .before .before in
+    blank-give _ (known .before .pre .1) _ (seek .seek .ensures) (c .before .if1 .taken) (λ i. omega (arith, known .slice-known .given i)) (depth .depth .ensures)
+
+blank-same-length : (t : ℕ) → blank-lts.Need-same-length (
+  seek-reads.Asked,
+  seek-reads.Learnt,
+  beside-reads.Asked,
+  beside-reads.Learnt,
+  depth-reads.Asked,
+  depth-reads.Learnt,
+  blank-entry-reads.Asked,
+  blank-entry-reads.Learnt,
+  child-reads.Asked,
+  child-reads.Learnt,
+  blank-below t,
+  blank.Post,
+) (blank-at t) blank.Post
+blank-same-length t c = search needs
+
+blank-returns : (t : ℕ) → blank-lts.Need-returns (
+  seek-reads.Asked,
+  seek-reads.Learnt,
+  beside-reads.Asked,
+  beside-reads.Learnt,
+  depth-reads.Asked,
+  depth-reads.Learnt,
+  blank-entry-reads.Asked,
+  blank-entry-reads.Learnt,
+  child-reads.Asked,
+  child-reads.Learnt,
+  blank-below t,
+  blank.Post,
+) (blank-at t) blank.Post
+blank-returns t c =
+    let tested = c .before .before .before .before in
+    let beside = tested .before .before .before in
+    let seek = beside .before .before in
+    blank-struck _ (seek .before .before .before .pre .1) _ (seek .seek .ensures) (tested .if1 .taken) _ (beside .beside .ensures) _ _ (c .before .before .blank-entry .ensures)
+
+blank-child-requires : (t : ℕ) → blank-lts.Need-child-requires (
+  seek-reads.Asked,
+  seek-reads.Learnt,
+  beside-reads.Asked,
+  beside-reads.Learnt,
+  depth-reads.Asked,
+  depth-reads.Learnt,
+  blank-entry-reads.Asked,
+  blank-entry-reads.Learnt,
+  child-reads.Asked,
+  child-reads.Learnt,
+  blank-below t,
+  blank.Post,
+) (blank-at t) blank.Post
+blank-child-requires t c κs =
+    let seek = c .before .before .before .before .before .before in
+    blank-read (seek .before .before .before .pre .1) _ (seek .seek .ensures)
+
+blank-sub-blank : (t : ℕ) → blank-lts.Need-sub-blank (
+  seek-reads.Asked,
+  seek-reads.Learnt,
+  beside-reads.Asked,
+  beside-reads.Learnt,
+  depth-reads.Asked,
+  depth-reads.Learnt,
+  blank-entry-reads.Asked,
+  blank-entry-reads.Learnt,
+  child-reads.Asked,
+  child-reads.Learnt,
+  blank-below t,
+  blank.Post,
+) (blank-at t) blank.Post
+blank-sub-blank t c = search needs
+
+blank-blank-requires : (t : ℕ) → blank-lts.Need-blank-requires (
+  seek-reads.Asked,
+  seek-reads.Learnt,
+  beside-reads.Asked,
+  beside-reads.Learnt,
+  depth-reads.Asked,
+  depth-reads.Learnt,
+  blank-entry-reads.Asked,
+  blank-entry-reads.Learnt,
+  child-reads.Asked,
+  child-reads.Learnt,
+  blank-below t,
+  blank.Post,
+) (blank-at t) blank.Post
+blank-blank-requires t c κs =
+    let child = c .before in
+    let tested = child .before .before in
+    let depth = tested .before in
+    let seek = depth .before .before .before .before in
+    let start = seek .before .before .before in
+    (omega (arith, start .pre .0, tested .if1 .left), blank-down _ (start .pre .1) _ (seek .seek .ensures) (tested .if1 .left) (depth .depth .ensures) (child .child .ensures))
+
+blank-same-length-2 : (t : ℕ) → blank-lts.Need-same-length-2 (
+  seek-reads.Asked,
+  seek-reads.Learnt,
+  beside-reads.Asked,
+  beside-reads.Learnt,
+  depth-reads.Asked,
+  depth-reads.Learnt,
+  blank-entry-reads.Asked,
+  blank-entry-reads.Learnt,
+  child-reads.Asked,
+  child-reads.Learnt,
+  blank-below t,
+  blank.Post,
+) (blank-at t) blank.Post
+blank-same-length-2 t c = search needs
+
+blank-returns-2 : (t : ℕ) → blank-lts.Need-returns-2 (
+  seek-reads.Asked,
+  seek-reads.Learnt,
+  beside-reads.Asked,
+  beside-reads.Learnt,
+  depth-reads.Asked,
+  depth-reads.Learnt,
+  blank-entry-reads.Asked,
+  blank-entry-reads.Learnt,
+  child-reads.Asked,
+  child-reads.Learnt,
+  blank-below t,
+  blank.Post,
+) (blank-at t) blank.Post
+blank-returns-2 t c =
+    let child = c .before .before .before .before in
+    let tested = child .before .before in
+    let depth = tested .before in
+    let beside = depth .before .before in
+    let seek = beside .before .before in
+    let start = seek .before .before .before in
+    blank-up _ (start .pre .1) _ (seek .seek .ensures) (tested .if1 .left) (depth .depth .ensures) (child .child .ensures) _ (beside .beside .ensures) _ _ (c .before .before .blank .ensures)
+
+pub +blank-spec : {M : Type 1} → statement M
++blank-spec = close μ-blank λ t. blank-lts.spec (
+  seek-reads.Asked,
+  seek-reads.Learnt,
+  beside-reads.Asked,
+  beside-reads.Learnt,
+  depth-reads.Asked,
+  depth-reads.Learnt,
+  blank-entry-reads.Asked,
+  blank-entry-reads.Learnt,
+  child-reads.Asked,
+  child-reads.Learnt,
+  blank-below t,
+  blank.Post,
+)
+    (blank-at t)
+    blank.Post
+    (blank-seek-requires t)
+    (blank-add-beside t)
+    (blank-beside-requires t)
+    (blank-depth-requires t)
+    (blank-blank-entry-requires t)
+    (blank-same-length t)
+    (blank-returns t)
+    (blank-child-requires t)
+    (blank-sub-blank t)
+    (blank-blank-requires t)
+    (blank-same-length-2 t)
+    (blank-returns-2 t)
