@@ -1,15 +1,13 @@
 -- The key's bits from a position on: what they say of the next entry, and what is left of them behind it. Assumes nothing.
 use mathlib.Core.Path.{_≡_, refl, sym, ap, subst, _∙_}
 use mathlib.Core.Logic.{_⊎_, inl, inr}
-use mathlib.Core.Bool.{true}
 use mathlib.Core.List.{List}
-use Prim.Native.Nat.{ℕ, suc, _+_, _-_, _*_, _%_, _^_, _≤_, _<_}
+use Prim.Native.Nat.{ℕ, suc, _+_, _-_, _*_, _/_, _%_, _^_, _≤_, _<_}
 use native.Mathlib.Omega.{arith}
 use native.Mathlib.Nat.{mod-lt, eq-or-lt-of-le, eq-zero-or-pos, lt-of-lt-of-le, lt-of-not-le, not-le-of-lt, mul-comm, two-mul, pow-suc, one-mul}
 use lib.Count.{leadingZeros, leading-top, leading-unique}
-use lib.Dec.{ltb}
 use lib.ListN.{length, getD}
-use lib.Pow.{pow-pos, pow-mono, mod-mod-pow, low}
+use lib.Pow.{pow-pos, pow-mono, pow-add, mod-mod-pow, low, shl-shr}
 use borrow.Author.Tests.{le-leb, lt-leb, lt-ltb, le-ltb, eq-eqb, ne-eqb}
 use Rattle.index_table.specs.Layout.{Ref}
 use Rattle.table_search.specs.Places.{ahead, firstPosition, aheadOf, NextPosition, Passed, Stopped}
@@ -84,7 +82,7 @@ top-bit x n j h a b =
 pub record Next (w key b d : ℕ) : Type 0 where
   pub position : ℕ
   pub passed : Passed w key b d position
-  pub left : aheadOf w (ahead w key b) d ≡ ahead w key position
+  pub left : aheadOf (ahead w key b) (2 ^ (w - d)) ≡ ahead w key position
 
 module _ (w key b d : ℕ) (wide : w ≤ 64) (inside : d ≤ w) where
   -- A deeper entry leaves all of them.
@@ -107,7 +105,7 @@ module _ (w key b d : ℕ) (wide : w ≤ 64) (inside : d ≤ w) where
       p : 2 ^ (w - d) ≡ 2 ^ (w - b)
       p = ap (λ (m : ℕ). 2 ^ (w - m)) (sym e)
 
-      rest : aheadOf w (ahead w key b) d ≡ key % 2 ^ (w - b)
+      rest : aheadOf (ahead w key b) (2 ^ (w - d)) ≡ key % 2 ^ (w - b)
       rest =
           let m : ahead w key b - 2 ^ (w - d) ≡ key % 2 ^ (w - b) = omega (arith, p, some-ahead w key b h) in
           rw (lt-ltb (ahead w key b - 2 ^ (w - d)) (2 ^ (w - d)) (omega (arith, p, m, mod-lt key (pow-pos (w - b))))) m
@@ -160,16 +158,17 @@ pub ahead-fits : (w key b first : ℕ) → w ≤ 64 → 0 < b → b ≤ w → fi
 ahead-fits w key b first wide pos h e =
     rw (e, sym (some-ahead w key b h)) (lt-of-lt-of-le (ahead-under w key b) (pow-mono (let s : suc (w - b) ≤ 64 = omega arith in s)))
 
-pub stops-first : (w a d : ℕ) → d ≡ 0 → a < 2 ^ w → true ≡ ltb a (2 ^ (w - d))
-stops-first w a d e h =
-    let s : w - d ≡ w = omega arith in
-    sym (rw s (lt-ltb a (2 ^ w) h))
+-- The first bit moved down to another.
+pub down-to : (w d first : ℕ) → 0 < d → d ≤ w → first ≡ 2 ^ (w - 1) → first / 2 ^ (d - 1) ≡ 2 ^ (w - d)
+down-to w d first pos h e =
+    let s : w - 1 ≡ w - d + (d - 1) = omega arith in
+    ap (λ (x : ℕ). x / 2 ^ (d - 1)) (e ∙ ap (λ (m : ℕ). 2 ^ m) s ∙ pow-add 2 (w - d) (d - 1)) ∙ shl-shr (2 ^ (w - d)) (d - 1)
 
-pub taken-off : (w a d first : ℕ) → first ≡ 2 ^ (w - d) → a - first < first → a - first ≡ aheadOf w a d
-taken-off w a d first e h = rw (sym e, lt-ltb (a - first) first h)
+pub taken-off : (a own : ℕ) → a - own < own → a - own ≡ aheadOf a own
+taken-off a own h = rw (lt-ltb (a - own) own h)
 
-pub left-on : (w a d first : ℕ) → first ≡ 2 ^ (w - d) → first ≤ a - first → a ≡ aheadOf w a d
-left-on w a d first e h = rw (sym e, le-ltb (a - first) first h)
+pub left-on : (a own : ℕ) → own ≤ a - own → a ≡ aheadOf a own
+left-on a own h = rw (le-ltb (a - own) own h)
 
 pub last-low : (w key p rest : ℕ) → rest ≡ key % 2 ^ (w - p) → rest < 2 ^ w
 last-low w key p rest e = rw e (lt-of-lt-of-le (mod-lt key (pow-pos (w - p))) (pow-mono (let s : w - p ≤ w = omega arith in s)))
@@ -202,29 +201,21 @@ module _ {w key b₀ τ : ℕ} {row : List Ref} (wide : w ≤ 64) (pos : 0 < b�
     position-is : (r : ℕ) → r ≡ firstPosition w a → b ≡ r
     position-is r e = sym (e ∙ ap (firstPosition w) (s .bits-are) ∙ ahead-position w key b wide (omega (arith, pos, s .seeking .rise)) (s .seeking .high))
 
-    module _ {d : ℕ} (low : d ≤ w) (is : d ≡ getD row i (0, 0) .0) where
-      pub ahead-stops : a < 2 ^ (w - d) → (r : ℕ) → r ≡ firstPosition w a → Stopped w key b₀ τ row (record { at = i; position = r; trail = t })
+    module _ {d own : ℕ} (low : d ≤ w) (is : d ≡ getD row i (0, 0) .0) (own-is : own ≡ 2 ^ (w - d)) where
+      pub ahead-stops : a < own → (r : ℕ) → r ≡ firstPosition w a → Stopped w key b₀ τ row (record { at = i; position = r; trail = t })
       ahead-stops l r e =
           subst (λ (n : ℕ). Stopped w key b₀ τ row (record { at = i; position = n; trail = t })) (position-is r e)
-          (seeking-stop w key b₀ τ row b t i d (s .seeking) is (ahead-stop w key b d low (subst (λ (n : ℕ). n < 2 ^ (w - d)) (s .bits-are) l)))
+          (seeking-stop w key b₀ τ row b t i d (s .seeking) is (ahead-stop w key b d low (omega (arith, own-is, s .bits-are, l))))
 
-      pub ahead-goes : i + 1 < length row → 2 ^ (w - d) ≤ a → (a′ : ℕ) → a′ ≡ aheadOf w a d → SeekingAhead w key b₀ τ row a′ d (i + 1)
+      pub ahead-goes : i + 1 < length row → own ≤ a → (a′ : ℕ) → a′ ≡ aheadOf a own → SeekingAhead w key b₀ τ row a′ d (i + 1)
       ahead-goes h l a′ e =
-          let passes : b ≤ d = ahead-pass w key b d (subst (λ (n : ℕ). 2 ^ (w - d) ≤ n) (s .bits-are) l) in
+          let passes : b ≤ d = ahead-pass w key b d (omega (arith, own-is, s .bits-are, l)) in
           let n = ahead-next w key b d wide low passes in
           record {
             position = n .position;
-            bits-are = e ∙ ap (λ (m : ℕ). aheadOf w m d) (s .bits-are) ∙ n .left;
+            bits-are = e ∙ (λ j. aheadOf (s .bits-are j) (own-is j)) ∙ n .left;
             seeking = seeking-more w key b₀ τ row b t i d (n .position) (s .seeking) h is passes (n .passed);
           }
-
-    pub ahead-passes : {d : ℕ} → d ≤ w → 2 ^ (w - d) ≤ a → (w ≤ 64) × (0 < d) × (d ≤ w) × (2 ^ (w - d) ≤ a)
-    ahead-passes {d} low l = (
-      wide,
-      omega (arith, ahead-pass w key b d (subst (λ (n : ℕ). 2 ^ (w - d) ≤ n) (s .bits-are) l), pos, s .seeking .rise),
-      low,
-      l,
-    )
 
     pub ahead-ends : (n : ℕ) → n ≡ length row → n ≤ i + 1 → (r : ℕ) → r ≡ firstPosition w a → Stopped w key b₀ τ row (record { at = i; position = r; trail = t })
     ahead-ends n is h r e =

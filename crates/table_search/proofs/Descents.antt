@@ -2,7 +2,7 @@
 use mathlib.Core.Path.{_≡_, refl, sym, ap, subst, _∙_}
 use mathlib.Core.Logic.{_⊎_, inl, inr}
 use mathlib.Core.List.{List, [], _∷_, _++_, map, map-append}
-use Prim.Native.Nat.{ℕ, zero, suc, _-_, _≤_, _<_}
+use Prim.Native.Nat.{ℕ, zero, suc, _+_, _-_, _≤_, _<_}
 use native.Mathlib.Omega.{arith}
 use lib.ListN.{length, getD, take, drop}
 use lib.Seq.{split-at}
@@ -60,6 +60,13 @@ closed-end c (x ∷ []) (suc i) h e = absurd (omega arith)
 closed-end c (x ∷ y ∷ row) zero h e = absurd (omega arith)
 closed-end c (x ∷ y ∷ row) (suc i) h e = closed-end c (y ∷ row) i (h .1) (omega arith)
 
+-- All others are above it.
+closed-inner : (c : ℕ) (row : List Ref) (i : ℕ) → Closed depthOf c row → i + 1 < length row → c < getD row i (0, 0) .0
+closed-inner c [] i h l = absurd h
+closed-inner c (x ∷ []) i h l = absurd (omega arith)
+closed-inner c (x ∷ y ∷ row) zero h l = h .0
+closed-inner c (x ∷ y ∷ row) (suc i) h l = closed-inner c (y ∷ row) i (h .1) (omega arith)
+
 module _ {b : List ℕ} {e P n page w key position : ℕ} (pre : DescendPre b e P n page w key position) where
   abbrev row : List Ref
   row = pagesAt (layoutOf e) b page
@@ -85,6 +92,7 @@ module _ {b : List ℕ} {e P n page w key position : ℕ} (pre : DescendPre b e 
         some = pre .sound .0 .some;
         few = pre .sound .0 .few;
         depths = depths-low w n node row same low;
+        inner = λ i h. omega (arith, closed-inner (pre .closing) row i (pre .sound .1) h);
         width = pre .width;
         narrow = pre .narrow;
         low = omega (arith, pre .before);

@@ -79,6 +79,11 @@ passed-next w key b d r e h p = record { left = rw (eq-eqb d b e, le-leb b w h) 
 pub read-entry : (L : Layout) (b : List ℕ) (p i : ℕ) → i < length (pagesAt L b p) → refAt L (pageBytes L b p) i ≡ getD (pagesAt L b p) i (0, 0)
 read-entry L b p i h = sym (getD-refs L (pageBytes L b p) i (0, 0) (omega (arith, length-refs L (pageBytes L b p))))
 
+pub depth-inner : {b : List ℕ} {e page w key position : ℕ} (i d : ℕ) → SeekPre b e page w key position → i + 1 < length (pagesAt (layoutOf e) b page)
+    → d ≡ refAt (layoutOf e) (pageBytes (layoutOf e) b page) i .0 → 0 < d
+depth-inner {b} {e} {page} i d pre h q =
+    subst (λ (n : ℕ). 0 < n) (sym (q ∙ ap (λ (x : Ref). x .0) (read-entry (layoutOf e) b page i (omega arith)))) (pre .inner i h)
+
 pub depth-low : {b : List ℕ} {e page w key position : ℕ} (i d : ℕ) → SeekPre b e page w key position → i < length (pagesAt (layoutOf e) b page)
     → d ≡ refAt (layoutOf e) (pageBytes (layoutOf e) b page) i .0 → d ≤ w
 depth-low {b} {e} {page} {w} i d pre h q =

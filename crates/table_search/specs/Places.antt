@@ -43,9 +43,9 @@ ahead w key b = cond (leb b w) (2 ^ (w - b) + key % 2 ^ (w - b)) 0
 abbrev pub firstPosition : ℕ → ℕ → ℕ
 firstPosition w a = cond (eqb a 0) (w + 1) (leadingZeros 64 a + w - 63)
 
--- What an entry of depth d leaves of them, once it was passed: the first is taken off where it stands at d.
-abbrev pub aheadOf : ℕ → ℕ → ℕ → ℕ
-aheadOf w a d = cond (ltb (a - 2 ^ (w - d)) (2 ^ (w - d))) (a - 2 ^ (w - d)) a
+-- What an entry leaves of them, once it was passed: the first is taken off where it is the entry's own bit.
+abbrev pub aheadOf : ℕ → ℕ → ℕ
+aheadOf a own = cond (ltb (a - own) own) (a - own) a
 
 -- The next position once an entry of depth d was passed at the position b.
 pub record Passed (w key b d r : ℕ) : Type 0 where
@@ -57,12 +57,13 @@ pub record Passed (w key b d r : ℕ) : Type 0 where
 abbrev pub depthOf : Ref → ℕ
 depthOf x = x .0
 
--- A page in use within the bytes, whose depths have at most w bits, and a position of a key.
+-- A page in use within the bytes, whose depths are at most w and, but for the last, above 0, and a position of a key.
 pub record SeekPre (b : List ℕ) (e page w key position : ℕ) : Type 0 where
   pub within : Within (layoutOf e) b page
   pub some : 1 ≤ length (pagesAt (layoutOf e) b page)
   pub few : length (pagesAt (layoutOf e) b page) ≤ e
   pub depths : All (λ x. x .0 ≤ w) (pagesAt (layoutOf e) b page)
+  pub inner : (i : ℕ) → i + 1 < length (pagesAt (layoutOf e) b page) → 0 < getD (pagesAt (layoutOf e) b page) i (0, 0) .0
   pub width : w ≤ 64
   pub narrow : key < 2 ^ w
   pub low : 0 < position

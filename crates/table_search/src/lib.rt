@@ -1,7 +1,6 @@
 // Search in sound tables: figure 6 from the root down.
 ghost use mathlib.Core.Path.{_≡_};
 ghost use Prim.Native.Nat.{_+_, _-_, _%_, _^_, _≤_, _<_};
-ghost use lib.Dec.{ltb};
 ghost use Rattle.index_table.specs.Layout.{layoutOf};
 ghost use Rattle.index_table.specs.Pages.{pagesAt};
 ghost use Rattle.table_search.specs.Places.{ahead, firstPosition, aheadOf, NextPosition, SeekPre, Stopped, DescendPre, Descended};
@@ -73,29 +72,25 @@ fn bits_ahead(w: u64, key: u64, b: u64) -> u64
     first + key % first
 }
 
-// Whether figure 6 stops at an entry of depth d: it is shallower than the first of the bits ahead.
-fn stops_at(w: u64, ahead: u64, d: u64) -> bool
-    requires { ⌜ (w ≤ 64) × (d ≤ w) × (ahead < 2 ^ w) ⌝ }
-    ensures { λ r. ⌜ r ≡ ltb ahead (2 ^ (w - d)) ⌝ }
+// Bit d of a number of w bits, counted from its first: a page's entries share that one, and each takes one shift.
+fn entry_bit(w: u64, d: u64) -> u64
+    requires { ⌜ (w ≤ 64) × (0 < d) × (d ≤ w) ⌝ }
+    ensures { λ r. ⌜ r ≡ 2 ^ (w - d) ⌝ }
 {
-    if d == 0 {
-        return true;
-    }
-    ahead < bit(w, d)
+    bit(w, 1) >> (d - 1)
 }
 
-// The bits ahead once an entry of depth d was passed.
-fn passed(w: u64, ahead: u64, d: u64) -> u64
-    requires { ⌜ (w ≤ 64) × (0 < d) × (d ≤ w) × (2 ^ (w - d) ≤ ahead) ⌝ }
-    ensures { λ r. ⌜ r ≡ aheadOf w ahead d ⌝ }
+// The bits ahead once an entry was passed, by the bit of its depth.
+fn passed(ahead: u64, own: u64) -> u64
+    requires { ⌜ own ≤ ahead ⌝ }
+    ensures { λ r. ⌜ r ≡ aheadOf ahead own ⌝ }
 {
-    let first = bit(w, d);
-    let behind = ahead - first;
-    if behind < first { behind } else { ahead }
+    let behind = ahead - own;
+    if behind < own { behind } else { ahead }
 }
 
 // The entry of a page at which figure 6 stops, begun at a position and with the depth before. In the page the key's bits from that position on are
-// carried.
+// carried: figure 6 stops at an entry whose own bit is above them.
 pub fn seek(index: &[u8], e: u8, page: PageNo, w: u64, key: u64, position: u64, trail: u64) -> Spot
     requires { ⌜ SeekPre (now index) e (page .0) w key position ⌝ }
     ensures { λ r. ⌜ Stopped w key position trail (pagesAt (layoutOf e) (now (index .entry)) (page .0)) r ⌝ }
@@ -106,14 +101,15 @@ pub fn seek(index: &[u8], e: u8, page: PageNo, w: u64, key: u64, position: u64, 
     let mut i: usize = 0;
     while i + 1 < n {
         let d = deep(depth(index, e, page, i));
-        if stops_at(w, bits, d) {
+        let own = entry_bit(w, d);
+        if bits < own {
             return Spot {
                 at: i,
                 position: first_position(w, bits),
                 trail: t,
             };
         }
-        bits = passed(w, bits, d);
+        bits = passed(bits, own);
         t = d;
         i += 1;
     }

@@ -4,12 +4,11 @@ use mathlib.Core.Path.{_≡_, sym, ap, _∙_}
 use Prim.Native.Nat.{_-_}
 use native.Mathlib.Omega.{arith}
 use lib.ListN.{length}
-use borrow.Author.Tests.{ltb-true, ltb-false}
 use Rattle.index_table.specs.Layout.{layoutOf, Ref}
 use Rattle.index_table.specs.Pages.{pagesAt}
 use Rattle.index_table.proofs.PageRows.{length-refs}
-use Rattle.table_search.proofs.Stops.{depth-low, read-entry}
-use Rattle.table_search.proofs.BitsAhead.{SeekingAhead, seeking-begun, seeking-low, ahead-stops, ahead-passes, ahead-goes, ahead-ends}
+use Rattle.table_search.proofs.Stops.{depth-inner, depth-low, read-entry}
+use Rattle.table_search.proofs.BitsAhead.{SeekingAhead, seeking-begun, seeking-low, ahead-stops, ahead-goes, ahead-ends}
 use Rattle.table_search.proofs.seek.Statement.{statement}
 use Rattle.table_search.proofs.seek.Tie as tie
 
@@ -44,13 +43,13 @@ depth-requires c κs = search needs
 deep-requires : tie.Need-deep-requires Inv-loop μ-loop
 deep-requires c κs = search needs
 
-stops-at-requires : tie.Need-stops-at-requires Inv-loop μ-loop
-stops-at-requires c κs =
+entry-bit-requires : tie.Need-entry-bit-requires Inv-loop μ-loop
+entry-bit-requires c κs =
     let at = c .before .before .before in
     let pre = at .before .before .before .before .before .pre in (
       pre .width,
+      depth-inner _ _ pre (omega (arith, at .loop .inv .0)) (c .deep .ensures ∙ c .before .depth .ensures),
       depth-low _ _ pre (at .loop .inv .1 .seeking .inside) (c .deep .ensures ∙ c .before .depth .ensures),
-      seeking-low (pre .width) (pre .low) (at .loop .inv .1),
     )
 
 first-position-requires : tie.Need-first-position-requires Inv-loop μ-loop
@@ -65,20 +64,11 @@ returns c =
     let read = tested .before .before in
     let at = read .before .before in
     let pre = at .before .before .before .before .before .pre in
-    ahead-stops (pre .width) (pre .low) (at .loop .inv .1)
-    (depth-low _ _ pre (at .loop .inv .1 .seeking .inside) (tested .before .deep .ensures ∙ read .depth .ensures))
-    (tested .before .deep .ensures ∙ read .depth .ensures ∙ ap (λ (x : Ref). x .0) (read-entry _ _ _ _ (at .loop .inv .1 .seeking .inside)))
-    (ltb-true _ _ (sym (tested .stops-at .ensures) ∙ c .before .if1 .taken)) _ (c .first-position .ensures)
+    ahead-stops (pre .width) (pre .low) (at .loop .inv .1) (depth-low _ _ pre (at .loop .inv .1 .seeking .inside) (tested .before .deep .ensures ∙ read .depth .ensures))
+    (tested .before .deep .ensures ∙ read .depth .ensures ∙ ap (λ (x : Ref). x .0) (read-entry _ _ _ _ (at .loop .inv .1 .seeking .inside))) (tested .entry-bit .ensures) (c .before .if1 .taken) _ (c .first-position .ensures)
 
 passed-requires : tie.Need-passed-requires Inv-loop μ-loop
-passed-requires c κs =
-    let tested = c .before in
-    let read = tested .before .before in
-    let at = read .before .before in
-    let pre = at .before .before .before .before .before .pre in
-    ahead-passes (pre .width) (pre .low) (at .loop .inv .1)
-    (depth-low _ _ pre (at .loop .inv .1 .seeking .inside) (tested .before .deep .ensures ∙ read .depth .ensures))
-    (ltb-false _ _ (sym (tested .stops-at .ensures) ∙ c .if1 .left))
+passed-requires c κs = search needs
 
 add-i : tie.Need-add-i Inv-loop μ-loop
 add-i c = search needs
@@ -93,10 +83,9 @@ loop-again c =
     let at = read .before .before in
     let pre = at .before .before .before .before .before .pre in (
       at .loop .inv .0,
-      ahead-goes (pre .width) (pre .low) (at .loop .inv .1)
-          (depth-low _ _ pre (at .loop .inv .1 .seeking .inside) (tested .before .deep .ensures ∙ read .depth .ensures))
-          (tested .before .deep .ensures ∙ read .depth .ensures ∙ ap (λ (x : Ref). x .0) (read-entry _ _ _ _ (at .loop .inv .1 .seeking .inside))) (omega arith)
-          (ltb-false _ _ (sym (tested .stops-at .ensures) ∙ c .before .if1 .left)) _ (c .passed .ensures),
+      ahead-goes (pre .width) (pre .low) (at .loop .inv .1) (depth-low _ _ pre (at .loop .inv .1 .seeking .inside) (tested .before .deep .ensures ∙ read .depth .ensures))
+          (tested .before .deep .ensures ∙ read .depth .ensures ∙ ap (λ (x : Ref). x .0) (read-entry _ _ _ _ (at .loop .inv .1 .seeking .inside))) (tested .entry-bit .ensures) (omega arith) (c .before .if1 .left) _
+          (c .passed .ensures),
     )
 
 first-position-requires-2 : tie.Need-first-position-requires-2 Inv-loop μ-loop
@@ -123,7 +112,7 @@ seek-spec =
     add-loop
     depth-requires
     deep-requires
-    stops-at-requires
+    entry-bit-requires
     first-position-requires
     returns
     passed-requires
