@@ -7,8 +7,7 @@
    overlap. The library keeps no memory of its own and no pointer: it works in
    the tables and on the stack alone. Calls on different tables may run at the
    same time, and so may calls of find, list and check on the same tables.
-   Measured on x86-64, find, list and check took up to 73000 bytes of stack, on
-   and off up to 168000 (root level 15): leave a thread 256 KiB.
+   A thread that calls it needs the bytes of stack that are named below.
 
    The two slices of a register have one length. If they have not, format
    answers 9, check false, and every other call 1. A key of W bits is a number
@@ -73,6 +72,11 @@ enum tag_index_number {
 #define TAG_INDEX_HEADER_BYTES 16
 #define TAG_INDEX_PAGE_BYTES(e) (2 + 3 * (size_t)(e))
 #define TAG_INDEX_BYTES(e, p) (TAG_INDEX_HEADER_BYTES + (size_t)(p) * TAG_INDEX_PAGE_BYTES(e))
+
+/* Bytes of stack that are enough for format, find, list and check, which read,
+   and for on and off, which change, on x86-64. Give a thread 512 KiB. */
+#define TAG_INDEX_STACK_TO_READ 75000
+#define TAG_INDEX_STACK_TO_CHANGE 360000
 
 struct tag_index_answer {
     uint32_t number; /* 0 done, or the number of the refusal */
