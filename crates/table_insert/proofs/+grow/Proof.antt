@@ -24,116 +24,9 @@ grow-at t = and 1 grow-kinds.ps (is 1 grow-kinds.ps μ-grow t) grow.Pre
 abbrev grow-below : ℕ → In 1 grow-kinds.ps
 grow-below t = and 1 grow-kinds.ps (falls 1 grow-kinds.ps _<_ μ-grow t) grow.Pre
 
-grow-element-copy-out-t13 : (t : ℕ) → grow-lts.Need-element-copy-out-t13 (
-  find-free-reads.Asked,
-  find-free-reads.Learnt,
-  place-parts-reads.Asked,
-  place-parts-reads.Learnt,
-  grow-below t,
-  grow.Post,
-) (grow-at t) grow.Post
-grow-element-copy-out-t13 t c = search needs
-
-grow-cast-t14 : (t : ℕ) → grow-lts.Need-cast-t14 (
-  find-free-reads.Asked,
-  find-free-reads.Learnt,
-  place-parts-reads.Asked,
-  place-parts-reads.Learnt,
-  grow-below t,
-  grow.Post,
-) (grow-at t) grow.Post
-grow-cast-t14 t c =
-    omega (arith, root-fits (c .before .before .before .pre .1) (search needs, search needs) (c .before .if1 .taken))
-
-grow-returns : (t : ℕ) → grow-lts.Need-returns (
-  find-free-reads.Asked,
-  find-free-reads.Learnt,
-  place-parts-reads.Asked,
-  place-parts-reads.Learnt,
-  grow-below t,
-  grow.Post,
-) (grow-at t) grow.Post
-grow-returns t c =
-    root-alone (c .before .before .before .pre .1) (search needs, search needs) (c .before .if1 .taken)
-
-grow-find-free-requires : (t : ℕ) → grow-lts.Need-find-free-requires (
-  find-free-reads.Asked,
-  find-free-reads.Learnt,
-  place-parts-reads.Asked,
-  place-parts-reads.Learnt,
-  grow-below t,
-  grow.Post,
-) (grow-at t) grow.Post
-grow-find-free-requires t c κs =
-    root-free (c .before .before .before .pre .1) (c .before .if1 .left)
-
-grow-add-place-parts : (t : ℕ) → grow-lts.Need-add-place-parts (
-  find-free-reads.Asked,
-  find-free-reads.Learnt,
-  place-parts-reads.Asked,
-  place-parts-reads.Learnt,
-  grow-below t,
-  grow.Post,
-) (grow-at t) grow.Post
-grow-add-place-parts t c =
-    omega (arith, root-level (c .before .before .before .before .before .pre .1) (c .before .before .before .if1 .left))
-
-grow-place-parts-requires : (t : ℕ) → grow-lts.Need-place-parts-requires (
-  find-free-reads.Asked,
-  find-free-reads.Learnt,
-  place-parts-reads.Asked,
-  place-parts-reads.Learnt,
-  grow-below t,
-  grow.Post,
-) (grow-at t) grow.Post
-grow-place-parts-requires t c κs =
-    root-place (c .before .before .before .before .before .pre .1) (c .before .before .before .if1 .left) _ (c .before .find-free .ensures .0)
-
-grow-add-grow : (t : ℕ) → grow-lts.Need-add-grow (
-  find-free-reads.Asked,
-  find-free-reads.Learnt,
-  place-parts-reads.Asked,
-  place-parts-reads.Learnt,
-  grow-below t,
-  grow.Post,
-) (grow-at t) grow.Post
-grow-add-grow t c =
-    omega (arith, root-level (c .before .before .before .before .before .before .before .before .before .pre .1) (c .before .before .before .before .before .before .before .if1 .left))
-
-grow-grow-requires : (t : ℕ) → grow-lts.Need-grow-requires (
-  find-free-reads.Asked,
-  find-free-reads.Learnt,
-  place-parts-reads.Asked,
-  place-parts-reads.Learnt,
-  grow-below t,
-  grow.Post,
-) (grow-at t) grow.Post
-grow-grow-requires t c κs =
-    (omega (arith, c .before .before .before .before .before .before .before .before .before .pre .0, up-fewer (c .before .before .before .before .before .before .before .before .before .pre .1) (c .before .before .before .before .before .before .before .if1 .left) (c .before .before .before .before .before .find-free .ensures .1) (omega (arith, c .before .before .before .before .before .before .before .before .before .fits)) _ (add-one (c .before .before .before .before .before .before .before .before .before .args .level)) (c .before .before .before .place-parts .ensures) (length-row (c .before .before .before .place-parts .result) (search needs, search needs) (omega (arith, c .before .before .before .place-parts .ensures .few)))), up-again (c .before .before .before .before .before .before .before .before .before .pre .1) (c .before .before .before .before .before .before .before .if1 .left) (c .before .before .before .before .before .find-free .ensures .1) (omega (arith, c .before .before .before .before .before .before .before .before .before .fits)) _ (add-one (c .before .before .before .before .before .before .before .before .before .args .level)) (c .before .before .before .place-parts .ensures) (length-row (c .before .before .before .place-parts .result) (search needs, search needs) (omega (arith, c .before .before .before .place-parts .ensures .few))))
-
-grow-same-length : (t : ℕ) → grow-lts.Need-same-length (
-  find-free-reads.Asked,
-  find-free-reads.Learnt,
-  place-parts-reads.Asked,
-  place-parts-reads.Learnt,
-  grow-below t,
-  grow.Post,
-) (grow-at t) grow.Post
-grow-same-length t c = search needs
-
-grow-returns-2 : (t : ℕ) → grow-lts.Need-returns-2 (
-  find-free-reads.Asked,
-  find-free-reads.Learnt,
-  place-parts-reads.Asked,
-  place-parts-reads.Learnt,
-  grow-below t,
-  grow.Post,
-) (grow-at t) grow.Post
-grow-returns-2 t c =
-    up-done (c .before .before .before .before .before .before .before .before .before .before .before .before .pre .1) (c .before .before .before .before .before .before .before .before .before .before .if1 .left) (c .before .before .before .before .before .before .before .before .find-free .ensures .1) (omega (arith, c .before .before .before .before .before .before .before .before .before .before .before .before .fits)) _ (add-one (c .before .before .before .before .before .before .before .before .before .before .before .before .args .level)) (c .before .before .before .before .before .before .place-parts .ensures) (length-row (c .before .before .before .before .before .before .place-parts .result) (search needs, search needs) (omega (arith, c .before .before .before .before .before .before .place-parts .ensures .few))) (c .before .before .grow .ensures)
-
-pub +grow-spec : {M : Type 1} → statement M
-+grow-spec = close μ-grow λ t. grow-lts.spec (
+-- What the functions called ask and promise.
+abbrev grow-claims : ℕ → grow-lts.Claims
+grow-claims t = (
   find-free-reads.Asked,
   find-free-reads.Learnt,
   place-parts-reads.Asked,
@@ -141,6 +34,47 @@ pub +grow-spec : {M : Type 1} → statement M
   grow-below t,
   grow.Post,
 )
+
+grow-element-copy-out-t13 : (t : ℕ) → grow-lts.Need-element-copy-out-t13 (grow-claims t) (grow-at t) grow.Post
+grow-element-copy-out-t13 t c = search needs
+
+grow-cast-t14 : (t : ℕ) → grow-lts.Need-cast-t14 (grow-claims t) (grow-at t) grow.Post
+grow-cast-t14 t c =
+    omega (arith, root-fits (c .before .before .before .pre .1) (search needs, search needs) (c .before .if1 .taken))
+
+grow-returns : (t : ℕ) → grow-lts.Need-returns (grow-claims t) (grow-at t) grow.Post
+grow-returns t c =
+    root-alone (c .before .before .before .pre .1) (search needs, search needs) (c .before .if1 .taken)
+
+grow-find-free-requires : (t : ℕ) → grow-lts.Need-find-free-requires (grow-claims t) (grow-at t) grow.Post
+grow-find-free-requires t c κs =
+    root-free (c .before .before .before .pre .1) (c .before .if1 .left)
+
+grow-add-place-parts : (t : ℕ) → grow-lts.Need-add-place-parts (grow-claims t) (grow-at t) grow.Post
+grow-add-place-parts t c =
+    omega (arith, root-level (c .before .before .before .before .before .pre .1) (c .before .before .before .if1 .left))
+
+grow-place-parts-requires : (t : ℕ) → grow-lts.Need-place-parts-requires (grow-claims t) (grow-at t) grow.Post
+grow-place-parts-requires t c κs =
+    root-place (c .before .before .before .before .before .pre .1) (c .before .before .before .if1 .left) _ (c .before .find-free .ensures .0)
+
+grow-add-grow : (t : ℕ) → grow-lts.Need-add-grow (grow-claims t) (grow-at t) grow.Post
+grow-add-grow t c =
+    omega (arith, root-level (c .before .before .before .before .before .before .before .before .before .pre .1) (c .before .before .before .before .before .before .before .if1 .left))
+
+grow-grow-requires : (t : ℕ) → grow-lts.Need-grow-requires (grow-claims t) (grow-at t) grow.Post
+grow-grow-requires t c κs =
+    (omega (arith, c .before .before .before .before .before .before .before .before .before .pre .0, up-fewer (c .before .before .before .before .before .before .before .before .before .pre .1) (c .before .before .before .before .before .before .before .if1 .left) (c .before .before .before .before .before .find-free .ensures .1) (omega (arith, c .before .before .before .before .before .before .before .before .before .fits)) _ (add-one (c .before .before .before .before .before .before .before .before .before .args .level)) (c .before .before .before .place-parts .ensures) (length-row (c .before .before .before .place-parts .result) (search needs, search needs) (omega (arith, c .before .before .before .place-parts .ensures .few)))), up-again (c .before .before .before .before .before .before .before .before .before .pre .1) (c .before .before .before .before .before .before .before .if1 .left) (c .before .before .before .before .before .find-free .ensures .1) (omega (arith, c .before .before .before .before .before .before .before .before .before .fits)) _ (add-one (c .before .before .before .before .before .before .before .before .before .args .level)) (c .before .before .before .place-parts .ensures) (length-row (c .before .before .before .place-parts .result) (search needs, search needs) (omega (arith, c .before .before .before .place-parts .ensures .few))))
+
+grow-same-length : (t : ℕ) → grow-lts.Need-same-length (grow-claims t) (grow-at t) grow.Post
+grow-same-length t c = search needs
+
+grow-returns-2 : (t : ℕ) → grow-lts.Need-returns-2 (grow-claims t) (grow-at t) grow.Post
+grow-returns-2 t c =
+    up-done (c .before .before .before .before .before .before .before .before .before .before .before .before .pre .1) (c .before .before .before .before .before .before .before .before .before .before .if1 .left) (c .before .before .before .before .before .before .before .before .find-free .ensures .1) (omega (arith, c .before .before .before .before .before .before .before .before .before .before .before .before .fits)) _ (add-one (c .before .before .before .before .before .before .before .before .before .before .before .before .args .level)) (c .before .before .before .before .before .before .place-parts .ensures) (length-row (c .before .before .before .before .before .before .place-parts .result) (search needs, search needs) (omega (arith, c .before .before .before .before .before .before .place-parts .ensures .few))) (c .before .before .grow .ensures)
+
+pub +grow-spec : {M : Type 1} → statement M
++grow-spec = close μ-grow λ t. grow-lts.spec (grow-claims t)
     (grow-at t)
     grow.Post
     (grow-element-copy-out-t13 t)

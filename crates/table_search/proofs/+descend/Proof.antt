@@ -26,160 +26,9 @@ descend-at t = and 1 descend-kinds.ps (is 1 descend-kinds.ps μ-descend t) desce
 abbrev descend-below : ℕ → In 1 descend-kinds.ps
 descend-below t = and 1 descend-kinds.ps (falls 1 descend-kinds.ps _<_ μ-descend t) descend.Pre
 
-descend-seek-requires : (t : ℕ) → descend-lts.Need-seek-requires (
-  seek-reads.Asked,
-  seek-reads.Learnt,
-  depth-reads.Asked,
-  depth-reads.Learnt,
-  deep-reads.Asked,
-  deep-reads.Learnt,
-  pointer-reads.Asked,
-  pointer-reads.Learnt,
-  child-reads.Asked,
-  child-reads.Learnt,
-  descend-below t,
-  descend.Post,
-) (descend-at t) descend.Post
-descend-seek-requires t c κs = descend-seek (c .before .pre .1)
-
-descend-depth-requires : (t : ℕ) → descend-lts.Need-depth-requires (
-  seek-reads.Asked,
-  seek-reads.Learnt,
-  depth-reads.Asked,
-  depth-reads.Learnt,
-  deep-reads.Asked,
-  deep-reads.Learnt,
-  pointer-reads.Asked,
-  pointer-reads.Learnt,
-  child-reads.Asked,
-  child-reads.Learnt,
-  descend-below t,
-  descend.Post,
-) (descend-at t) descend.Post
-descend-depth-requires t c κs = (descend-within (c .before .before .before .pre .1), descend-inside (c .before .before .before .pre .1) _ (c .before .seek .ensures))
-
-descend-deep-requires : (t : ℕ) → descend-lts.Need-deep-requires (
-  seek-reads.Asked,
-  seek-reads.Learnt,
-  depth-reads.Asked,
-  depth-reads.Learnt,
-  deep-reads.Asked,
-  deep-reads.Learnt,
-  pointer-reads.Asked,
-  pointer-reads.Learnt,
-  child-reads.Asked,
-  child-reads.Learnt,
-  descend-below t,
-  descend.Post,
-) (descend-at t) descend.Post
-descend-deep-requires t c κs = search needs
-
-descend-pointer-requires : (t : ℕ) → descend-lts.Need-pointer-requires (
-  seek-reads.Asked,
-  seek-reads.Learnt,
-  depth-reads.Asked,
-  depth-reads.Learnt,
-  deep-reads.Asked,
-  deep-reads.Learnt,
-  pointer-reads.Asked,
-  pointer-reads.Learnt,
-  child-reads.Asked,
-  child-reads.Learnt,
-  descend-below t,
-  descend.Post,
-) (descend-at t) descend.Post
-descend-pointer-requires t c κs =
-    let at = c .before .before .before in
-    (descend-within (at .before .before .pre .1), descend-inside (at .before .before .pre .1) _ (at .seek .ensures))
-
-descend-returns : (t : ℕ) → descend-lts.Need-returns (
-  seek-reads.Asked,
-  seek-reads.Learnt,
-  depth-reads.Asked,
-  depth-reads.Learnt,
-  deep-reads.Asked,
-  deep-reads.Learnt,
-  pointer-reads.Asked,
-  pointer-reads.Learnt,
-  child-reads.Asked,
-  child-reads.Learnt,
-  descend-below t,
-  descend.Post,
-) (descend-at t) descend.Post
-descend-returns t c =
-    let at = c .before .before .before .before in
-    descend-leaf _ (at .before .before .pre .1) _ (at .seek .ensures) (c .before .before .before .if1 .taken) _ refl _ _ (c .before .deep .ensures ∙ c .before .before .depth .ensures) (c .pointer .ensures .0) (c .pointer .ensures .1)
-
-descend-child-requires : (t : ℕ) → descend-lts.Need-child-requires (
-  seek-reads.Asked,
-  seek-reads.Learnt,
-  depth-reads.Asked,
-  depth-reads.Learnt,
-  deep-reads.Asked,
-  deep-reads.Learnt,
-  pointer-reads.Asked,
-  pointer-reads.Learnt,
-  child-reads.Asked,
-  child-reads.Learnt,
-  descend-below t,
-  descend.Post,
-) (descend-at t) descend.Post
-descend-child-requires t c κs = (descend-within (c .before .before .before .pre .1), descend-inside (c .before .before .before .pre .1) _ (c .before .seek .ensures))
-
-descend-sub-descend : (t : ℕ) → descend-lts.Need-sub-descend (
-  seek-reads.Asked,
-  seek-reads.Learnt,
-  depth-reads.Asked,
-  depth-reads.Learnt,
-  deep-reads.Asked,
-  deep-reads.Learnt,
-  pointer-reads.Asked,
-  pointer-reads.Learnt,
-  child-reads.Asked,
-  child-reads.Learnt,
-  descend-below t,
-  descend.Post,
-) (descend-at t) descend.Post
-descend-sub-descend t c = search needs
-
-descend-descend-requires : (t : ℕ) → descend-lts.Need-descend-requires (
-  seek-reads.Asked,
-  seek-reads.Learnt,
-  depth-reads.Asked,
-  depth-reads.Learnt,
-  deep-reads.Asked,
-  deep-reads.Learnt,
-  pointer-reads.Asked,
-  pointer-reads.Learnt,
-  child-reads.Asked,
-  child-reads.Learnt,
-  descend-below t,
-  descend.Post,
-) (descend-at t) descend.Post
-descend-descend-requires t c κs =
-    let at = c .before .before in
-    (omega (arith, at .before .before .pre .0), descend-down _ (c .before .if1 .left) (at .before .before .pre .1) _ (at .seek .ensures) _ (c .child .ensures))
-
-descend-returns-2 : (t : ℕ) → descend-lts.Need-returns-2 (
-  seek-reads.Asked,
-  seek-reads.Learnt,
-  depth-reads.Asked,
-  depth-reads.Learnt,
-  deep-reads.Asked,
-  deep-reads.Learnt,
-  pointer-reads.Asked,
-  pointer-reads.Learnt,
-  child-reads.Asked,
-  child-reads.Learnt,
-  descend-below t,
-  descend.Post,
-) (descend-at t) descend.Post
-descend-returns-2 t c =
-    let at = c .before .before .before in
-    descend-up _ (c .before .before .if1 .left) (at .before .before .pre .1) _ (at .seek .ensures) _ (c .before .child .ensures) _ (c .descend .ensures)
-
-pub +descend-spec : {M : Type 1} → statement M
-+descend-spec = close μ-descend λ t. descend-lts.spec (
+-- What the functions called ask and promise, this one for lower levels.
+abbrev descend-claims : ℕ → descend-lts.Claims
+descend-claims t = (
   seek-reads.Asked,
   seek-reads.Learnt,
   depth-reads.Asked,
@@ -193,6 +42,44 @@ pub +descend-spec : {M : Type 1} → statement M
   descend-below t,
   descend.Post,
 )
+
+descend-seek-requires : (t : ℕ) → descend-lts.Need-seek-requires (descend-claims t) (descend-at t) descend.Post
+descend-seek-requires t c κs = descend-seek (c .before .pre .1)
+
+descend-depth-requires : (t : ℕ) → descend-lts.Need-depth-requires (descend-claims t) (descend-at t) descend.Post
+descend-depth-requires t c κs = (descend-within (c .before .before .before .pre .1), descend-inside (c .before .before .before .pre .1) _ (c .before .seek .ensures))
+
+descend-deep-requires : (t : ℕ) → descend-lts.Need-deep-requires (descend-claims t) (descend-at t) descend.Post
+descend-deep-requires t c κs = search needs
+
+descend-pointer-requires : (t : ℕ) → descend-lts.Need-pointer-requires (descend-claims t) (descend-at t) descend.Post
+descend-pointer-requires t c κs =
+    let at = c .before .before .before in
+    (descend-within (at .before .before .pre .1), descend-inside (at .before .before .pre .1) _ (at .seek .ensures))
+
+descend-returns : (t : ℕ) → descend-lts.Need-returns (descend-claims t) (descend-at t) descend.Post
+descend-returns t c =
+    let at = c .before .before .before .before in
+    descend-leaf _ (at .before .before .pre .1) _ (at .seek .ensures) (c .before .before .before .if1 .taken) _ refl _ _ (c .before .deep .ensures ∙ c .before .before .depth .ensures) (c .pointer .ensures .0) (c .pointer .ensures .1)
+
+descend-child-requires : (t : ℕ) → descend-lts.Need-child-requires (descend-claims t) (descend-at t) descend.Post
+descend-child-requires t c κs = (descend-within (c .before .before .before .pre .1), descend-inside (c .before .before .before .pre .1) _ (c .before .seek .ensures))
+
+descend-sub-descend : (t : ℕ) → descend-lts.Need-sub-descend (descend-claims t) (descend-at t) descend.Post
+descend-sub-descend t c = search needs
+
+descend-descend-requires : (t : ℕ) → descend-lts.Need-descend-requires (descend-claims t) (descend-at t) descend.Post
+descend-descend-requires t c κs =
+    let at = c .before .before in
+    (omega (arith, at .before .before .pre .0), descend-down _ (c .before .if1 .left) (at .before .before .pre .1) _ (at .seek .ensures) _ (c .child .ensures))
+
+descend-returns-2 : (t : ℕ) → descend-lts.Need-returns-2 (descend-claims t) (descend-at t) descend.Post
+descend-returns-2 t c =
+    let at = c .before .before .before in
+    descend-up _ (c .before .before .if1 .left) (at .before .before .pre .1) _ (at .seek .ensures) _ (c .before .child .ensures) _ (c .descend .ensures)
+
+pub +descend-spec : {M : Type 1} → statement M
++descend-spec = close μ-descend λ t. descend-lts.spec (descend-claims t)
     (descend-at t)
     descend.Post
     (descend-seek-requires t)

@@ -27,186 +27,9 @@ abbrev list-from-below : ℕ → In 3 list-from-kinds.ps
 list-from-below t =
     and 3 list-from-kinds.ps (falls 3 list-from-kinds.ps _<_ μ-list-from t) list-from.Pre
 
-list-from-seek-requires : (t : ℕ) → list-from-lts.Need-seek-requires (
-  seek-reads.Asked,
-  seek-reads.Learnt,
-  begun-reads.Asked,
-  begun-reads.Learnt,
-  list-row-reads.Asked,
-  list-row-reads.Learnt,
-  child-reads.Asked,
-  child-reads.Learnt,
-  list-from-below t,
-  list-from.Post,
-) (list-from-at t) list-from.Post
-list-from-seek-requires t c κs = descend-seek (c .before .before .before .pre .1 .place)
-
-list-from-begun-requires : (t : ℕ) → list-from-lts.Need-begun-requires (
-  seek-reads.Asked,
-  seek-reads.Learnt,
-  begun-reads.Asked,
-  begun-reads.Learnt,
-  list-row-reads.Asked,
-  list-row-reads.Learnt,
-  child-reads.Asked,
-  child-reads.Learnt,
-  list-from-below t,
-  list-from.Post,
-) (list-from-at t) list-from.Post
-list-from-begun-requires t c κs = search needs
-
-list-from-list-row-requires : (t : ℕ) → list-from-lts.Need-list-row-requires (
-  seek-reads.Asked,
-  seek-reads.Learnt,
-  begun-reads.Asked,
-  begun-reads.Learnt,
-  list-row-reads.Asked,
-  list-row-reads.Learnt,
-  child-reads.Asked,
-  child-reads.Learnt,
-  list-from-below t,
-  list-from.Post,
-) (list-from-at t) list-from.Post
-list-from-list-row-requires t c κs = from-row (c .before .before .before .before .before .before .before .pre .1)
-
-list-from-same-length : (t : ℕ) → list-from-lts.Need-same-length (
-  seek-reads.Asked,
-  seek-reads.Learnt,
-  begun-reads.Asked,
-  begun-reads.Learnt,
-  list-row-reads.Asked,
-  list-row-reads.Learnt,
-  child-reads.Asked,
-  child-reads.Learnt,
-  list-from-below t,
-  list-from.Post,
-) (list-from-at t) list-from.Post
-list-from-same-length t c = search needs
-
-list-from-returns : (t : ℕ) → list-from-lts.Need-returns (
-  seek-reads.Asked,
-  seek-reads.Learnt,
-  begun-reads.Asked,
-  begun-reads.Learnt,
-  list-row-reads.Asked,
-  list-row-reads.Learnt,
-  child-reads.Asked,
-  child-reads.Learnt,
-  list-from-below t,
-  list-from.Post,
-) (list-from-at t) list-from.Post
-list-from-returns t c =
-    let at = c .before .before .before .before .before .before in
-    from-leaf _ (c .before .before .before .before .before .if1 .taken) (at .before .before .before .before .pre .1) _ (at .seek .ensures) _ _ (c .before .before .before .begun .ensures) _ (c .before .before .list-row .ensures)
-
-list-from-child-requires : (t : ℕ) → list-from-lts.Need-child-requires (
-  seek-reads.Asked,
-  seek-reads.Learnt,
-  begun-reads.Asked,
-  begun-reads.Learnt,
-  list-row-reads.Asked,
-  list-row-reads.Learnt,
-  child-reads.Asked,
-  child-reads.Learnt,
-  list-from-below t,
-  list-from.Post,
-) (list-from-at t) list-from.Post
-list-from-child-requires t c κs =
-    let pre = c .before .before .before .before .before .pre .1 in
-    (row-within (from-row pre), row-short (from-row pre) _ (c .before .seek .ensures .inside))
-
-list-from-sub-list-from : (t : ℕ) → list-from-lts.Need-sub-list-from (
-  seek-reads.Asked,
-  seek-reads.Learnt,
-  begun-reads.Asked,
-  begun-reads.Learnt,
-  list-row-reads.Asked,
-  list-row-reads.Learnt,
-  child-reads.Asked,
-  child-reads.Learnt,
-  list-from-below t,
-  list-from.Post,
-) (list-from-at t) list-from.Post
-list-from-sub-list-from t c = search needs
-
-list-from-list-from-requires : (t : ℕ) → list-from-lts.Need-list-from-requires (
-  seek-reads.Asked,
-  seek-reads.Learnt,
-  begun-reads.Asked,
-  begun-reads.Learnt,
-  list-row-reads.Asked,
-  list-row-reads.Learnt,
-  child-reads.Asked,
-  child-reads.Learnt,
-  list-from-below t,
-  list-from.Post,
-) (list-from-at t) list-from.Post
-list-from-list-from-requires t c κs =
-    let at = c .before .before .before in
-    (omega (arith, at .before .before .before .before .pre .0), from-below _ (c .before .before .if1 .left) (at .before .before .before .before .pre .1) _ (at .seek .ensures) _ (c .before .child .ensures))
-
-list-from-add-list-row : (t : ℕ) → list-from-lts.Need-add-list-row (
-  seek-reads.Asked,
-  seek-reads.Learnt,
-  begun-reads.Asked,
-  begun-reads.Learnt,
-  list-row-reads.Asked,
-  list-row-reads.Learnt,
-  child-reads.Asked,
-  child-reads.Learnt,
-  list-from-below t,
-  list-from.Post,
-) (list-from-at t) list-from.Post
-list-from-add-list-row t c =
-    let at = c .before .before .before .before .before .before in
-    omega (arith, row-short (from-row (at .before .before .before .before .pre .1)) _ (at .seek .ensures .inside))
-
-list-from-list-row-requires-2 : (t : ℕ) → list-from-lts.Need-list-row-requires-2 (
-  seek-reads.Asked,
-  seek-reads.Learnt,
-  begun-reads.Asked,
-  begun-reads.Learnt,
-  list-row-reads.Asked,
-  list-row-reads.Learnt,
-  child-reads.Asked,
-  child-reads.Learnt,
-  list-from-below t,
-  list-from.Post,
-) (list-from-at t) list-from.Post
-list-from-list-row-requires-2 t c κs = from-row (c .before .before .before .before .before .before .before .before .before .before .before .pre .1)
-
-list-from-same-length-2 : (t : ℕ) → list-from-lts.Need-same-length-2 (
-  seek-reads.Asked,
-  seek-reads.Learnt,
-  begun-reads.Asked,
-  begun-reads.Learnt,
-  list-row-reads.Asked,
-  list-row-reads.Learnt,
-  child-reads.Asked,
-  child-reads.Learnt,
-  list-from-below t,
-  list-from.Post,
-) (list-from-at t) list-from.Post
-list-from-same-length-2 t c = search needs
-
-list-from-returns-2 : (t : ℕ) → list-from-lts.Need-returns-2 (
-  seek-reads.Asked,
-  seek-reads.Learnt,
-  begun-reads.Asked,
-  begun-reads.Learnt,
-  list-row-reads.Asked,
-  list-row-reads.Learnt,
-  child-reads.Asked,
-  child-reads.Learnt,
-  list-from-below t,
-  list-from.Post,
-) (list-from-at t) list-from.Post
-list-from-returns-2 t c =
-    let at = c .before .before .before .before .before .before .before .before .before .before in
-    from-right _ (c .before .before .before .before .before .before .before .before .before .if1 .left) (at .before .before .before .before .pre .1) _ (at .seek .ensures) _ (c .before .before .before .before .before .before .before .before .child .ensures) _ _ _ (c .before .before .before .before .before .before .list-from .ensures) (c .before .before .list-row2 .ensures)
-
-pub +list-from-spec : {M : Type 1} → statement M
-+list-from-spec = close μ-list-from λ t. list-from-lts.spec (
+-- What the functions called ask and promise.
+abbrev list-from-claims : ℕ → list-from-lts.Claims
+list-from-claims t = (
   seek-reads.Asked,
   seek-reads.Learnt,
   begun-reads.Asked,
@@ -218,6 +41,55 @@ pub +list-from-spec : {M : Type 1} → statement M
   list-from-below t,
   list-from.Post,
 )
+
+list-from-seek-requires : (t : ℕ) → list-from-lts.Need-seek-requires (list-from-claims t) (list-from-at t) list-from.Post
+list-from-seek-requires t c κs = descend-seek (c .before .before .before .pre .1 .place)
+
+list-from-begun-requires : (t : ℕ) → list-from-lts.Need-begun-requires (list-from-claims t) (list-from-at t) list-from.Post
+list-from-begun-requires t c κs = search needs
+
+list-from-list-row-requires : (t : ℕ) → list-from-lts.Need-list-row-requires (list-from-claims t) (list-from-at t) list-from.Post
+list-from-list-row-requires t c κs = from-row (c .before .before .before .before .before .before .before .pre .1)
+
+list-from-same-length : (t : ℕ) → list-from-lts.Need-same-length (list-from-claims t) (list-from-at t) list-from.Post
+list-from-same-length t c = search needs
+
+list-from-returns : (t : ℕ) → list-from-lts.Need-returns (list-from-claims t) (list-from-at t) list-from.Post
+list-from-returns t c =
+    let at = c .before .before .before .before .before .before in
+    from-leaf _ (c .before .before .before .before .before .if1 .taken) (at .before .before .before .before .pre .1) _ (at .seek .ensures) _ _ (c .before .before .before .begun .ensures) _ (c .before .before .list-row .ensures)
+
+list-from-child-requires : (t : ℕ) → list-from-lts.Need-child-requires (list-from-claims t) (list-from-at t) list-from.Post
+list-from-child-requires t c κs =
+    let pre = c .before .before .before .before .before .pre .1 in
+    (row-within (from-row pre), row-short (from-row pre) _ (c .before .seek .ensures .inside))
+
+list-from-sub-list-from : (t : ℕ) → list-from-lts.Need-sub-list-from (list-from-claims t) (list-from-at t) list-from.Post
+list-from-sub-list-from t c = search needs
+
+list-from-list-from-requires : (t : ℕ) → list-from-lts.Need-list-from-requires (list-from-claims t) (list-from-at t) list-from.Post
+list-from-list-from-requires t c κs =
+    let at = c .before .before .before in
+    (omega (arith, at .before .before .before .before .pre .0), from-below _ (c .before .before .if1 .left) (at .before .before .before .before .pre .1) _ (at .seek .ensures) _ (c .before .child .ensures))
+
+list-from-add-list-row : (t : ℕ) → list-from-lts.Need-add-list-row (list-from-claims t) (list-from-at t) list-from.Post
+list-from-add-list-row t c =
+    let at = c .before .before .before .before .before .before in
+    omega (arith, row-short (from-row (at .before .before .before .before .pre .1)) _ (at .seek .ensures .inside))
+
+list-from-list-row-requires-2 : (t : ℕ) → list-from-lts.Need-list-row-requires-2 (list-from-claims t) (list-from-at t) list-from.Post
+list-from-list-row-requires-2 t c κs = from-row (c .before .before .before .before .before .before .before .before .before .before .before .pre .1)
+
+list-from-same-length-2 : (t : ℕ) → list-from-lts.Need-same-length-2 (list-from-claims t) (list-from-at t) list-from.Post
+list-from-same-length-2 t c = search needs
+
+list-from-returns-2 : (t : ℕ) → list-from-lts.Need-returns-2 (list-from-claims t) (list-from-at t) list-from.Post
+list-from-returns-2 t c =
+    let at = c .before .before .before .before .before .before .before .before .before .before in
+    from-right _ (c .before .before .before .before .before .before .before .before .before .if1 .left) (at .before .before .before .before .pre .1) _ (at .seek .ensures) _ (c .before .before .before .before .before .before .before .before .child .ensures) _ _ _ (c .before .before .before .before .before .before .list-from .ensures) (c .before .before .list-row2 .ensures)
+
+pub +list-from-spec : {M : Type 1} → statement M
++list-from-spec = close μ-list-from λ t. list-from-lts.spec (list-from-claims t)
     (list-from-at t)
     list-from.Post
     (list-from-seek-requires t)
