@@ -1,12 +1,3 @@
-pub mod Iff
-pub mod Gathered
-pub mod EntryTests
-pub mod PassTests
-pub mod RowTurns
-pub mod UncountedTurns
-pub mod PassTurns
 pub mod MetPages
-pub mod ZeroBytes
-pub mod Headers
 pub mod WholeTree
 pub mod Verdict

@@ -17,11 +17,13 @@ use Rattle.index_table.specs.declared.header.Index.{Index}
 use Rattle.index_table.proofs.PageBytes.{within-table}
 use Rattle.index_table.proofs.PageRows.{length-refs}
 use Rattle.index_table.proofs.PageCounts.{same-self, same-cases}
-use Rattle.table_check.specs.Walks.{Carried, Scanned, rowsOf, leavesOfRow, Ends, RowSound, EntrySound, LeavesPre, WalkPre, Entered, Walked}
-use Rattle.table_check.specs.declared.entries.Scan.{Scan}
-use Rattle.table_check.specs.declared.entries.Checked.{Checked}
-use Rattle.table_check.proofs.Iff.{iff-no, iff-yes, said-no}
-use Rattle.table_check.proofs.EntryTests.{scanned-no}
+use Rattle.bytes_check.specs.Scans.{rowsOf}
+use Rattle.leaf_check.specs.Leaves.{Carried, Scanned, leavesOfRow, Ends, RowSound, EntrySound, LeavesPre}
+use Rattle.table_check.specs.Walks.{WalkPre, Entered, Walked}
+use Rattle.leaf_check.specs.declared.entries.Scan.{Scan}
+use Rattle.leaf_check.specs.declared.entries.Checked.{Checked}
+use Rattle.bytes_check.proofs.Iff.{iff-no, iff-yes, said-no}
+use Rattle.leaf_check.proofs.EntryTests.{scanned-no}
 
 -- ---- its size
 

@@ -18,9 +18,9 @@ use Rattle.index_table.specs.Header.{widthOf, entriesOf, pagesOf, rootOf, heldO
 use Rattle.index_table.specs.IndexNumbers.{IndexOf}
 use Rattle.index_table.specs.Soundness.{Sound, leafEntries}
 use Rattle.index_table.specs.declared.header.Index.{Index}
-use Rattle.table_check.specs.Scans.{SoundRecords, HeaderFits}
+use Rattle.bytes_check.specs.Scans.{SoundRecords, HeaderFits}
 use Rattle.table_check.specs.Trees.{TreePre, PagesSound}
-use Rattle.table_check.proofs.EntryTests.{beyond-free}
+use Rattle.leaf_check.proofs.EntryTests.{beyond-free}
 
 -- ---- the register
 

@@ -20,11 +20,12 @@ use Rattle.index_table.proofs.PageBytes.{pages-apart}
 use Rattle.index_table.proofs.PageCounts.{same-cases}
 use Rattle.index_table.proofs.PageRows.{length-refs}
 use Rattle.index_table.proofs.Frames.{refs-beyond}
-use Rattle.table_check.specs.Walks.{Passing, rowsOf, leavesBelow, EntrySound, WalkPre, Walked}
-use Rattle.table_check.specs.Scans.{PageCleared}
+use Rattle.bytes_check.specs.Scans.{PageCleared, rowsOf}
+use Rattle.leaf_check.specs.Leaves.{Passing, leavesBelow, EntrySound}
+use Rattle.table_check.specs.Walks.{WalkPre, Walked}
 use Rattle.table_check.specs.Trees.{TreePre, TreeSound, PagesSound, levelOfRoot}
-use Rattle.table_check.specs.declared.entries.Scan.{Scan}
-use Rattle.table_check.specs.declared.entries.Checked.{Checked}
+use Rattle.leaf_check.specs.declared.entries.Scan.{Scan}
+use Rattle.leaf_check.specs.declared.entries.Checked.{Checked}
 
 -- ---- the pages met below a sound entry
 

@@ -1,4 +1,2 @@
-pub mod Scans
 pub mod Walks
-pub mod Passes
 pub mod Trees

@@ -10,7 +10,8 @@ use Rattle.index_table.specs.Layout.{layoutOf, pageStart, pageBytes, levelOf}
 use Rattle.index_table.specs.Pages.{rootRef, met, inUse as pageInUse}
 use Rattle.index_table.specs.Soundness.{SoundBelow, SoundPages, Cleared}
 use Rattle.index_table.specs.declared.header.Index.{Index}
-use Rattle.table_check.specs.Walks.{NarrowRegister, rowsOf, leavesBelow}
+use Rattle.bytes_check.specs.Scans.{rowsOf}
+use Rattle.leaf_check.specs.Leaves.{NarrowRegister, leavesBelow}
 
 -- What the check of the tree takes: the table and the register are as the header says.
 pub record TreePre (h : Index) (index keys used : List ℕ) : Type 0 where

@@ -7,10 +7,10 @@ ghost use lib.ListN.{length};
 ghost use Rattle.index_table.specs.Layout.{layoutOf, pageStart};
 ghost use Rattle.index_table.specs.Soundness.{SizedPage};
 ghost use Rattle.table_check.specs.Walks.{WalkPre, Entered, Walked};
-use crate::entries::Checked;
-use crate::entries::Scan;
 use index_table::header::Index;
 use index_table::layout::PageNo;
+use leaf_check::entries::Checked;
+use leaf_check::entries::Scan;
 
 // Whether a page is among the pages, of this level, and has 1 to E entries.
 fn sized(index: &[u8], h: Index, level: u8, page: PageNo) -> bool
@@ -65,14 +65,14 @@ pub fn page_ok(
         return Checked { ok: false, scan: s };
     }
     if level == 0 {
-        return crate::leaves::scan_leaves(index, keys, used, h, page, c, s);
+        return leaf_check::leaves::scan_leaves(index, keys, used, h, page, c, s);
     }
     let n = index_table::layout::wide(index_table::layout::count(index, h.entries, page));
     let mut scan = s;
     let mut i: usize = 0;
     while i < n {
         let d = index_table::layout::depth(index, h.entries, page, i);
-        if !crate::leaves::closes(c, d, i + 1 == n) {
+        if !leaf_check::leaves::closes(c, d, i + 1 == n) {
             return Checked { ok: false, scan };
         }
         let child = index_table::layout::child(index, h.entries, page, i);

@@ -5,11 +5,11 @@ ghost use mathlib.Core.Logic.{_↔_};
 ghost use Prim.Native.Nat.{ℕ, _≤_};
 ghost use lib.ListN.{length, getD};
 ghost use Rattle.index_table.specs.Layout.{layoutOf, Within};
-ghost use Rattle.table_check.specs.Walks.{rowsOf};
+ghost use Rattle.bytes_check.specs.Scans.{rowsOf};
 ghost use Rattle.table_check.specs.Trees.{TreePre, TreeSound, PagesSound};
-use crate::entries::Scan;
-use crate::numbers::wide16;
+use bytes_check::numbers::wide16;
 use index_table::header::Index;
+use leaf_check::entries::Scan;
 
 // Whether the root may stand on this level: at most the highest, and above level 0 with two entries or more.
 fn root_fits(index: &[u8], h: Index, level: u8) -> bool
@@ -50,7 +50,7 @@ fn tree_marked(index: &[u8], keys: &[u64], used: &[u8], map: &mut [u8], h: Index
     if scan.live != wide16(h.held) {
         return false;
     }
-    crate::cleared::all_cleared(index, map, h)
+    bytes_check::cleared::all_cleared(index, map, h)
 }
 
 // The same, with a map of its own for at most 1,024 pages.

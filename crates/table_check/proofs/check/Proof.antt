@@ -3,8 +3,8 @@ use mathlib.Core.Path.{sym, _∙_, subst}
 use Prim.Native.Nat.{ℕ}
 use native.Mathlib.Omega.{arith}
 use borrow.Author.Tests.{not-true, not-false}
-use Rattle.table_check.specs.Scans.{SoundRecords}
-use Rattle.table_check.proofs.Iff.{iff-no, iff-trans, said-no}
+use Rattle.bytes_check.specs.Scans.{SoundRecords}
+use Rattle.bytes_check.proofs.Iff.{iff-no, iff-trans, said-no}
 use Rattle.table_check.proofs.Verdict.{sound-header, unsound-records, unsound-held, tree-pre, sound-pages}
 use borrow.Author.Needs.{needs}
 use Rattle.table_check.proofs.check.Statement.{statement}

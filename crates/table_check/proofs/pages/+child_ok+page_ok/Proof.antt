@@ -4,7 +4,7 @@ use Prim.Native.Nat.{_+_, _*_, _-_, _<_}
 use native.Mathlib.Omega.{arith}
 use lib.ListN.{length}
 use borrow.Author.Tests.{not-true, not-false}
-use Rattle.table_check.proofs.RowTurns.{RowTurn, entryAt, entry-few, row-start, row-depth, row-entry, row-more, row-all, row-marks}
+use Rattle.leaf_check.proofs.RowTurns.{RowTurn, entryAt, entry-few, row-start, row-depth, row-entry, row-more, row-all, row-marks}
 use Rattle.table_check.proofs.MetPages.{MetPage, met-page, met-marked, met-long, leaves-pre, walk-on, walked-refused, walked-row, walked-row-no, walked-leaves, walked-at, walked-lower}
 use borrow.Author.Needs.{needs}
 use Prim.Native.Nat.{ℕ}
@@ -20,8 +20,8 @@ use Rattle.index_table.proofs.layout.child.Reads as child-reads
 use Rattle.index_table.proofs.layout.count.Reads as count-reads
 use Rattle.index_table.proofs.layout.depth.Reads as depth-reads
 use Rattle.index_table.proofs.layout.wide.Reads as wide-reads
-use Rattle.table_check.proofs.leaves.closes.Reads as closes-reads
-use Rattle.table_check.proofs.leaves.scan_leaves.Reads as scan-leaves-reads
+use Rattle.leaf_check.proofs.leaves.closes.Reads as closes-reads
+use Rattle.leaf_check.proofs.leaves.scan_leaves.Reads as scan-leaves-reads
 use Rattle.table_check.proofs.pages.enter.Reads as enter-reads
 use Rattle.table_check.proofs.pages.+child_ok+page_ok.{statement}
 use Rattle.table_check.proofs.pages.+child_ok+page_ok.Tie.{close}

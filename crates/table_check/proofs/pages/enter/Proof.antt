@@ -4,7 +4,7 @@ use Prim.Native.Nat.{ℕ}
 use lib.ListN.{getD}
 use native.Mathlib.Omega.{arith}
 use borrow.Author.Tests.{not-true, not-false}
-use Rattle.table_check.proofs.Iff.{said-no}
+use Rattle.bytes_check.proofs.Iff.{said-no}
 use Rattle.table_check.proofs.MetPages.{entered-no, entered-yes}
 use borrow.Author.Needs.{needs}
 use Rattle.table_check.proofs.pages.enter.Statement.{statement}

@@ -3,7 +3,7 @@ use mathlib.Core.Path.{sym, _∙_}
 use native.Mathlib.Omega.{arith}
 use Rattle.index_table.specs.Layout.{layoutOf}
 use Rattle.index_table.proofs.PageBytes.{within-table}
-use Rattle.table_check.proofs.Iff.{iff-no}
+use Rattle.bytes_check.proofs.Iff.{iff-no}
 use Rattle.table_check.proofs.MetPages.{sized-empty, sized-few}
 use Rattle.table_check.proofs.pages.sized.Statement.{statement}
 use Rattle.table_check.proofs.pages.sized.Tie as tie

@@ -3,7 +3,7 @@ use native.Mathlib.Omega.{arith}
 use borrow.Author.Tests.{not-true, not-false}
 use Rattle.index_table.specs.Layout.{layoutOf}
 use Rattle.index_table.proofs.PageBytes.{within-table}
-use Rattle.table_check.proofs.Iff.{iff-no, iff-trans, said-no}
+use Rattle.bytes_check.proofs.Iff.{iff-no, iff-trans, said-no}
 use Rattle.table_check.proofs.WholeTree.{root-beyond, root-refused, root-sound}
 use borrow.Author.Needs.{needs}
 use Rattle.table_check.proofs.root.pages_sound.Statement.{statement}

@@ -1,6 +1,6 @@
 -- The root's level and its entries. Assumes nothing.
 use native.Mathlib.Omega.{arith}
-use Rattle.table_check.proofs.Iff.{iff-no}
+use Rattle.bytes_check.proofs.Iff.{iff-no}
 use Rattle.table_check.proofs.WholeTree.{root-entries}
 use borrow.Author.Needs.{needs}
 use Rattle.table_check.proofs.root.root_fits.Statement.{statement}

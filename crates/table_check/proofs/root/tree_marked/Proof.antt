@@ -3,7 +3,7 @@ use mathlib.Core.Path.{sym, _∙_}
 use mathlib.Core.Bool.{true≢false}
 use native.Mathlib.Omega.{arith}
 use borrow.Author.Tests.{not-true, not-false}
-use Rattle.table_check.proofs.Iff.{iff-no, iff-trans}
+use Rattle.bytes_check.proofs.Iff.{iff-no, iff-trans}
 use Rattle.table_check.proofs.WholeTree.{walk-start, tree-walked, tree-closed, tree-live, marks-small, marks-few, tree-cleared}
 use borrow.Author.Needs.{needs}
 use Rattle.table_check.proofs.root.tree_marked.Statement.{statement}

@@ -1,0 +1,4 @@
+pub mod Iff
+pub mod Gathered
+pub mod ZeroBytes
+pub mod Headers

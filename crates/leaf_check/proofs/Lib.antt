@@ -1,0 +1,5 @@
+pub mod EntryTests
+pub mod PassTests
+pub mod RowTurns
+pub mod UncountedTurns
+pub mod PassTurns
