@@ -7,14 +7,14 @@ use contract.Lifetimes.{Lfts}
 use denote.Ref.{RefT}
 use lib.ListN.{length, take}
 use Rattle.table_calls.specs.declared.answer.Answer.{Answer}
-use Rattle.tag_index.specs.Format.{formatFits, FormatDoes}
+use Rattle.table_format.specs.Format.{formatFits, FormatDoes}
+use Rattle.table_format.proofs.EmptySound.{format-sound, format-lengths, format-width, format-empties}
+use Rattle.table_format.proofs.format.Reads as format-reads
 use Rattle.tag_index.specs.Histories.{Tables, Reply, OrderedMap, Sizes, sizesOf, Feed, nothingFed, emptyMap, formats}
 use Rattle.tag_index.specs.Claims.{Agrees}
-use Rattle.tag_index.proofs.EmptySound.{format-sound, format-lengths, format-width, format-empties}
 use Rattle.tag_index.proofs.Runs.{Lent}
 use Rattle.tag_index.proofs.MapSteps.{Holds, on-does-step, off-does-step, find-does-step, list-does-step}
 use Rattle.tag_index.proofs.Histories.{agrees}
-use Rattle.tag_index.proofs.format.format.Reads as format-reads
 use Rattle.book_lines.specs.declared.Said.{Said}
 use Rattle.book_lines.specs.declared.Said.the-variants.{On, Off, Find, List as Lists, Bad, OutOfRange}
 use Rattle.book_lines.specs.Lines.{meaning}

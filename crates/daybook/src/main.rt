@@ -167,7 +167,7 @@ fn main() {
     let mut used = [0u8; 4096];
     let mut held = [0u8; 81];
     let mut out = io::large_buffer();
-    tag_index::format::format(&mut index, &mut keys, &mut used, 64, 60, 250);
+    table_format::format(&mut index, &mut keys, &mut used, 64, 60, 250);
     let begun = Reading {
         lines: 0,
         held: 0,

@@ -4,9 +4,9 @@ use mathlib.Core.List.{List, _∷_}
 use lib.ListN.{length}
 use Rattle.leaf_list.specs.Herd.{Herd}
 use Rattle.index_table.proofs.SoundTables.{herd-held}
+use Rattle.table_format.proofs.EmptySound.{format-sound, format-lengths, format-width, format-empties}
 use Rattle.tag_index.specs.Histories.{Tables, Call, Reply, OrderedMap, Sizes, sizesOf, Feed, keyWith, emptyMap, mapAfter, mapReplies, mapBehind}
 use Rattle.tag_index.specs.Claims.{byteAndKey, Agrees, Follows}
-use Rattle.tag_index.proofs.EmptySound.{format-sound, format-lengths, format-width, format-empties}
 use Rattle.tag_index.proofs.MapSteps.{Holds, Step, formats-step, ons-step, offs-step, finds-step, lists-step, checks-step}
 use Rattle.tag_index.proofs.ReachedPages.{reached-in-use, other-zero}
 use Rattle.tag_index.proofs.RecordKeys.{record-says}

@@ -1,7 +1,4 @@
 pub mod Changes
-pub mod EmptySound
-pub mod EmptyTables
-pub mod FormatLimits
 pub mod Histories
 pub mod Judging
 pub mod Runs

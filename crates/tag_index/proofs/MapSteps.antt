@@ -14,13 +14,13 @@ use Rattle.index_table.specs.Header.{widthOf, rootOf, HeaderFrom}
 use Rattle.index_table.specs.Soundness.{Sound}
 use Rattle.table_calls.specs.declared.answer.Answer.{Answer}
 use Rattle.table_calls.specs.Answers.{plain}
+use Rattle.table_format.specs.Format.{FormatDoes}
+use Rattle.table_format.proofs.EmptySound.{format-sound, format-lengths, format-width, format-empties}
 use Rattle.table_change.specs.Changes.{tooWide, isSome, isHeld, onRow, onRowOf, offRowOf, rowEight, rowSeven}
 use Rattle.table_change.proofs.SoundAfter.{herd-on, herd-off}
-use Rattle.tag_index.specs.Format.{FormatDoes}
 use Rattle.tag_index.specs.Changing.{OnDoes, OffDoes, rowBehind}
 use Rattle.tag_index.specs.Reading.{Judged, FindDoes, ListDoes}
 use Rattle.tag_index.specs.Histories.{Tables, Call, format, on, off, find, list, check, Reply, answered, sliced, said, OrderedMap, Sizes, sizesOf, Feed, feedOf, formats, emptyMap, mapOnRow, mapOffRow, mapReply, mapAfter}
-use Rattle.tag_index.proofs.EmptySound.{format-sound, format-lengths, format-width, format-empties}
 use Rattle.tag_index.proofs.RecordKeys.{record-taken}
 use Rattle.tag_index.proofs.Runs.{Formats, Ons, Offs, Finds, Lists, Checks, formats-does, ons-does, offs-does, finds-does, lists-does, checks-does}
 

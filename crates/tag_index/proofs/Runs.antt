@@ -8,7 +8,7 @@ use contract.Lifetimes.{Lfts}
 use denote.Ref.{RefT}
 use Rattle.index_table.specs.Soundness.{Sound}
 use Rattle.table_calls.specs.declared.answer.Answer.{Answer}
-use Rattle.tag_index.specs.Format.{FormatDoes}
+use Rattle.table_format.specs.Format.{FormatDoes}
 use Rattle.tag_index.specs.Changing.{OnDoes, OffDoes}
 use Rattle.tag_index.specs.Reading.{FindDoes, ListDoes}
 use Rattle.tag_index.specs.Histories.{Tables, Call, format, on, off, find, list, check, Reply, answered, sliced, said, OrderedMap, sizesOf, Feed, feedOf, formats as fits, emptyMap, mapBehind}

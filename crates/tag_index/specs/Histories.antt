@@ -9,8 +9,8 @@ use Rattle.leaf_list.specs.Herd.{Herd, lookup, add, remove}
 use Rattle.table_calls.specs.declared.answer.Answer.{Answer}
 use Rattle.table_calls.specs.Answers.{plain, found}
 use Rattle.table_calls.specs.Ranges.{recordsBetween, listed, listSlice}
+use Rattle.table_format.specs.Format.{formatFits}
 use Rattle.table_change.specs.Changes.{tooWide, isSome, isHeld, rowEight, rowSeven, onRow, offRow}
-use Rattle.tag_index.specs.Format.{formatFits}
 use Rattle.tag_index.specs.Reading.{firstRow, behind, keptBehind}
 
 -- One index table and one register.

@@ -1,4 +1,3 @@
-pub mod Format
 pub mod Changing
 pub mod Histories
 pub mod Reading

@@ -3,8 +3,8 @@ ghost use mathlib.Core.Path.{_≡_};
 ghost use mathlib.Core.Bool.{true};
 ghost use mathlib.Core.Logic.{_↔_};
 ghost use Rattle.index_table.specs.Soundness.{Sound};
+ghost use Rattle.table_format.specs.Format.{FormatDoes};
 ghost use Rattle.tag_index.specs.Changing.{OnDoes, OffDoes};
-ghost use Rattle.tag_index.specs.Format.{FormatDoes};
 ghost use Rattle.tag_index.specs.Reading.{FindDoes, ListDoes};
 use table_calls::answer::Answer;
 
@@ -19,7 +19,7 @@ pub extern "C" fn tag_index_format(
 ) -> Answer
     ensures { λ r. ⌜ FormatDoes w e p (now (index .entry)) (now (keys .entry)) (now (used .entry)) (now (index .exit)) (now (keys .exit)) (now (used .exit)) r ⌝ }
 {
-    crate::format::format(index, keys, used, w, e, p)
+    table_format::format(index, keys, used, w, e, p)
 }
 
 #[no_mangle]

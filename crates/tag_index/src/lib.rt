@@ -1,5 +1,4 @@
 // The tag index: the calls on lent tables.
 pub mod c;
 pub mod change;
-pub mod format;
 pub mod read;

@@ -4,9 +4,9 @@ use mathlib.Core.Path.{_≡_, refl}
 use Prim.Native.Nat.{_≤_, _-_}
 use native.Mathlib.Omega.{arith}
 use lib.ListN.{length, take, replicate, length-set}
-use Rattle.tag_index.proofs.EmptyTables.{zeros-more, zeros-all}
-use Rattle.tag_index.proofs.format.clear_keys.Statement.{statement}
-use Rattle.tag_index.proofs.format.clear_keys.Tie as tie
+use Rattle.table_format.proofs.EmptyTables.{zeros-more, zeros-all}
+use Rattle.table_format.proofs.clear_keys.Statement.{statement}
+use Rattle.table_format.proofs.clear_keys.Tie as tie
 
 abbrev Inv-loop : tie.InvT-loop
 Inv-loop keys₀ i₀ keys i = (i ≤ length keys) × (length keys ≡ length keys₀) × (take i keys ≡ replicate i 0)

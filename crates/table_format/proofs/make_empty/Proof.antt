@@ -3,9 +3,9 @@ use borrow.Author.Needs.{needs}
 use mathlib.Core.Path.{_∙_}
 use native.Mathlib.Omega.{arith}
 use lib.ListN.{length-set}
-use Rattle.tag_index.proofs.EmptyTables.{made}
-use Rattle.tag_index.proofs.format.make_empty.Statement.{statement}
-use Rattle.tag_index.proofs.format.make_empty.Tie as tie
+use Rattle.table_format.proofs.EmptyTables.{made}
+use Rattle.table_format.proofs.make_empty.Statement.{statement}
+use Rattle.table_format.proofs.make_empty.Tie as tie
 
 clear-requires : tie.Need-clear-requires
 clear-requires c κs = search needs

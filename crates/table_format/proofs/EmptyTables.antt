@@ -12,7 +12,7 @@ use Rattle.index_table.specs.Layout.{layoutOf, pageSize, rowPage, pageOf, rowBy
 use Rattle.index_table.specs.Header.{headerBytes}
 use Rattle.index_table.proofs.HeaderLaws.{length-header}
 use Rattle.index_table.proofs.ListLaws.{over-append, over-one}
-use Rattle.tag_index.specs.Format.{emptyTable, EmptyPre}
+use Rattle.table_format.specs.Format.{emptyTable, EmptyPre}
 
 -- A list written over a whole one of its length.
 pub over-whole : (l vs : List ℕ) → length vs ≡ length l → over l 0 vs ≡ vs

@@ -2,9 +2,9 @@
 use borrow.Author.Needs.{needs}
 use mathlib.Core.Path.{sym, _∙_}
 use native.Mathlib.Omega.{arith}
-use Rattle.tag_index.proofs.FormatLimits.{fits-not, fits-met}
-use Rattle.tag_index.proofs.format.format_fits.Statement.{statement}
-use Rattle.tag_index.proofs.format.format_fits.Tie as tie
+use Rattle.table_format.proofs.FormatLimits.{fits-not, fits-met}
+use Rattle.table_format.proofs.format_fits.Statement.{statement}
+use Rattle.table_format.proofs.format_fits.Tie as tie
 
 returns : tie.Need-returns
 returns c = sym (fits-not _ _ _ _ _ _ (λ h. omega (arith, h .limits .width-low, h .limits .width-high, h .limits .entries-low, h .limits .entries-high, h .limits .pages-low, h .limits .pages-high, h .limits .records-low, h .limits .records-high, h .register)))

@@ -4,10 +4,10 @@ use borrow.Author.Tests.{not-true, not-false}
 use mathlib.Core.Path.{sym, _∙_}
 use native.Mathlib.Omega.{arith}
 use lib.ListN.{length-replicate}
-use Rattle.tag_index.proofs.FormatLimits.{fits-says, format-refused, format-done, format-empty}
-use Rattle.tag_index.proofs.EmptyTables.{over-whole}
-use Rattle.tag_index.proofs.format.format.Statement.{statement}
-use Rattle.tag_index.proofs.format.format.Tie as tie
+use Rattle.table_format.proofs.FormatLimits.{fits-says, format-refused, format-done, format-empty}
+use Rattle.table_format.proofs.EmptyTables.{over-whole}
+use Rattle.table_format.proofs.format.Statement.{statement}
+use Rattle.table_format.proofs.format.Tie as tie
 
 format-fits-requires : tie.Need-format-fits-requires
 format-fits-requires c κs = search needs

@@ -26,9 +26,9 @@ use Rattle.index_table.proofs.PageRows.{length-page-of}
 use Rattle.index_table.proofs.Frames.{stored-refs}
 use Rattle.index_table.proofs.StoredRows.{all-zeros, zeros-all, zeros-refs, zeros-cleared, HeadOf, row-page-head, page-of-cleared, stored-node, stored-meets, stored-sound}
 use Rattle.table_calls.specs.declared.answer.Answer.{Answer}
-use Rattle.tag_index.specs.Format.{formatFits, emptyTable, FormatDoes}
-use Rattle.tag_index.proofs.EmptyTables.{over-zeros}
-use Rattle.tag_index.proofs.FormatLimits.{FormatFit, fits-says}
+use Rattle.table_format.specs.Format.{formatFits, emptyTable, FormatDoes}
+use Rattle.table_format.proofs.EmptyTables.{over-zeros}
+use Rattle.table_format.proofs.FormatLimits.{FormatFit, fits-says}
 
 -- ---- the register
 

@@ -1,0 +1,3 @@
+pub mod EmptySound
+pub mod EmptyTables
+pub mod FormatLimits
