@@ -20,60 +20,21 @@ use Rattle.table_search.specs.declared.Spot.{Spot}
 use Rattle.table_search.specs.Places.{SeekPre, Stopped}
 use Rattle.table_search.proofs.Stops.{read-entry}
 use Rattle.table_search.proofs.Descents.{descend-within, descend-inside}
-use Rattle.table_delete.specs.Keeping.{Linked}
-use Rattle.table_delete.specs.Removing.{FirstPre, FirstPost, followingAt}
-use Rattle.table_delete.specs.OnePage.{GivePre, DummyPost}
-use Rattle.table_delete.specs.Blanking.{BesidePre, BlankPre, BlankPost}
-use Rattle.table_delete.proofs.FoundPlaces.{found-down}
-use Rattle.table_delete.proofs.Removals.{remove-descend, locate-seek}
+use Rattle.tree_delete.specs.Keeping.{Linked}
+use Rattle.tree_delete.specs.Removing.{followingAt, AfterPre}
+use Rattle.page_delete.specs.OnePage.{GivePre, DummyPost}
+use Rattle.table_delete.specs.Blanking.{BlankPre, BlankPost}
+use Rattle.tree_delete.proofs.FoundPlaces.{found-down}
+use Rattle.tree_delete.proofs.Removals.{remove-descend, locate-seek, locate-after}
 use Rattle.table_delete.proofs.QuietWays.{quiet-up, next-leaf, quiet-leaf}
-
--- ---- the depth that follows
-
-module _ {e P n : ℕ} {b : List ℕ} {page : ℕ} (h : BesidePre e P n b page) where
-  abbrev row : List Ref
-  row = pagesAt (layoutOf e) b page
-
-  -- The page can be read.
-  pub beside-within : Within (layoutOf e) b page
-  beside-within = within-table (layoutOf e) P page b (omega (arith, h .paged .table)) (h .sized .number)
-
-  module _ (i : ℕ) {k m : ℕ} (counted : k ≡ countOf (pageBytes (layoutOf e) b page)) (wide : m ≡ k) where
-    module _ (l : i < m) where
-      inside : i < length row
-      inside = omega (arith, l, counted, wide, length-refs (layoutOf e) (pageBytes (layoutOf e) b page))
-
-      -- So can the entry behind,
-      pub beside-read : Within (layoutOf e) b page × (i < e)
-      beside-read = (beside-within, omega (arith, inside, h .sized .few))
-
-      module _ {d p : ℕ} (d-is : d ≡ refAt (layoutOf e) (pageBytes (layoutOf e) b page) i .0) (p-is : p ≡ refAt (layoutOf e) (pageBytes (layoutOf e) b page) i .1) where
-        pub beside-first : FirstPre e P n b (d, p)
-        beside-first =
-            rw (d-is, p-is, read-entry (layoutOf e) b page i inside)
-            (record { paged = h .paged; linked = all-at (Linked (layoutOf e) P n b) row i (0, 0) inside (h .linked) })
-
-        -- below which the depth stands that follows;
-        pub beside-some : (ν r : ℕ) → FirstPost n (pagesAt (layoutOf e) b) (d, p) r → r ≡ followingAt n (pagesAt (layoutOf e) b) ν (drop i row)
-        beside-some ν r z =
-            let z′ : FirstPost n (pagesAt (layoutOf e) b) (getD row i (0, 0)) r = rw (d-is, p-is, read-entry (layoutOf e) b page i inside) at z in
-            z′ .is ν (flats (leaves n) (map (nodeAt 65535 n (pagesAt (layoutOf e) b)) (drop (suc i) row))) ∙ ap (followingAt n (pagesAt (layoutOf e) b) ν) (sym (drop-cons row i (0, 0) inside))
-
-    -- or, where the page has ended, what follows it.
-    pub beside-none : (ν : ℕ) → m ≤ i → ν ≡ followingAt n (pagesAt (layoutOf e) b) ν (drop i row)
-    beside-none ν l =
-        ap (followingAt n (pagesAt (layoutOf e) b) ν)
-        (sym (drop-of-length-le row (let z : length row ≤ i = omega (arith, l, counted, wide, length-refs (layoutOf e) (pageBytes (layoutOf e) b page)) in z)))
-
--- ---- the page below an entry
 
 module _ {e P n : ℕ} {b : List ℕ} {x : Ref} {w key position : ℕ} (h : BlankPre e P (suc n) b x w key position) where
   -- It can be searched,
   pub blank-seek : SeekPre b e (x .1) w key position
   blank-seek = locate-seek (h .remove)
 
-  pub blank-beside : BesidePre e P n b (x .1)
-  blank-beside = record { paged = h .remove .back .paged; sized = h .remove .back .linked .0; linked = h .remove .back .linked .2 }
+  pub blank-after : AfterPre e P n b (x .1)
+  blank-after = locate-after (h .remove)
 
   module _ {τ : ℕ} (s : Spot) (a : Stopped w key position τ (pagesAt (layoutOf e) b (x .1)) s) where
     -- and read at the place found.

@@ -17,12 +17,12 @@ use Rattle.index_table.proofs.PageBytes.{within-table}
 use Rattle.index_table.proofs.PageRows.{length-refs, drop-refs}
 use Rattle.index_table.proofs.PageCounts.{same-self, same-cases}
 use Rattle.index_table.proofs.Frames.{Keeps, Unchanged, unchanged}
-use Rattle.table_delete.specs.Keeping.{numbersAt, Linked}
-use Rattle.table_delete.specs.Rows.{settled}
+use Rattle.tree_delete.specs.Keeping.{numbersAt, Linked}
+use Rattle.tree_delete.specs.Rows.{settled}
 use Rattle.table_delete.specs.Taking.{LowerPre, LowerPost}
-use Rattle.table_delete.proofs.Frames.{linked-stays}
-use Rattle.table_delete.proofs.Settling.{settled-other, settled-refs, settled-cleared, settled-long, settled-front}
-use Rattle.table_delete.proofs.SweepTurns.{paged-then}
+use Rattle.tree_delete.proofs.Frames.{linked-stays}
+use Rattle.tree_delete.proofs.Settling.{settled-other, settled-refs, settled-cleared, settled-long, settled-front}
+use Rattle.tree_delete.proofs.SweepTurns.{paged-then}
 
 -- The root page stands in the table.
 pub lower-within : {e P n : ℕ} {b : List ℕ} {p : ℕ} → LowerPre e P n b p → Within (layoutOf e) b p

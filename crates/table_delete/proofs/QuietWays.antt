@@ -6,6 +6,7 @@ use native.Mathlib.Omega.{arith}
 use lib.ListN.{length, getD, take, drop, length-map}
 use Rattle.leaf_list.specs.Entries.{Entry}
 use Rattle.page_tree.specs.Rows.{All, lastDepth}
+use Rattle.page_tree.specs.Row.{depthOf}
 use Rattle.page_tree.specs.declared.Unwind.{Unwind}
 use Rattle.page_tree.specs.OffPages.{Left, stepEntry, sweep, nextDepth, strikeIn}
 use Rattle.page_tree.specs.Numbered.{Numbered, numberedDepth, numberedLeaves, keptUnder, stepNumbered, deleteNumbered}
@@ -20,19 +21,19 @@ use Rattle.table_search.specs.declared.Spot.{Spot}
 use Rattle.table_search.specs.declared.Leaf.{Leaf}
 use Rattle.table_search.specs.Places.{leftFrom, Stopped, Way}
 use Rattle.table_search.proofs.Descents.{descend-within}
-use Rattle.table_delete.specs.Keeping.{depthOf, numbersAt, Linked, Kept}
-use Rattle.table_delete.specs.Rows.{settled, entryFor}
-use Rattle.table_delete.specs.Removing.{followingAt, RemovePre}
-use Rattle.table_delete.specs.OnePage.{Calm, leafRow, NearDone, StruckNear}
+use Rattle.tree_delete.specs.Keeping.{numbersAt, Linked, Kept}
+use Rattle.tree_delete.specs.Rows.{settled, entryFor}
+use Rattle.tree_delete.specs.Removing.{followingAt, RemovePre}
+use Rattle.page_delete.specs.OnePage.{Calm, leafRow, NearDone, StruckNear}
 use Rattle.table_delete.specs.Blanking.{Quiet}
-use Rattle.table_delete.proofs.CalmRows.{askedPast, past-calm, kept-some, calm-row}
-use Rattle.table_delete.proofs.Frames.{kept-at, before-stays, after-stays}
-use Rattle.table_delete.proofs.RowChanges.{page-some, entry-some}
-use Rattle.table_delete.proofs.Settling.{settled-kept, settled-numbers}
-use Rattle.table_delete.proofs.Sweeps.{none-met}
-use Rattle.table_delete.proofs.SweepTurns.{met-mid}
-use Rattle.table_delete.proofs.FoundPlaces.{found-parted, found-linked, found-owned, found-down, found-strike}
-use Rattle.table_delete.proofs.Removals.{remove-descend}
+use Rattle.tree_delete.proofs.CalmRows.{askedPast, past-calm, kept-some, calm-row}
+use Rattle.tree_delete.proofs.Frames.{kept-at, before-stays, after-stays}
+use Rattle.tree_delete.proofs.RowChanges.{page-some, entry-some}
+use Rattle.tree_delete.proofs.Settling.{settled-kept, settled-numbers}
+use Rattle.tree_delete.proofs.Sweeps.{none-met}
+use Rattle.tree_delete.proofs.SweepTurns.{met-mid}
+use Rattle.tree_delete.proofs.FoundPlaces.{found-parted, found-linked, found-owned, found-down, found-strike}
+use Rattle.tree_delete.proofs.Removals.{remove-descend}
 
 module _ {e P n : ℕ} {b : List ℕ} {x : Ref} {w key position τ : ℕ} (h : RemovePre e P (suc n) b x w key position) (s : Spot) (a : Stopped w key position τ (pagesAt (layoutOf e) b (x .1)) s) where
   abbrev L : Layout

@@ -3,6 +3,7 @@ use mathlib.Core.Path.{_≡_, refl, sym, _∙_, subst}
 use mathlib.Core.List.{List, [], _∷_, map}
 use Prim.Native.Nat.{ℕ, zero, suc}
 use Rattle.page_tree.specs.Rows.{All, Closed}
+use Rattle.page_tree.specs.Row.{depthOf}
 use Rattle.page_tree.specs.Tree.{Node, depth, Sound}
 use Rattle.page_tree.proofs.ClosedRows.{closed-last}
 use Rattle.page_tree.proofs.RowMaps.{lastDepth-map, closed-unmap}
@@ -11,7 +12,7 @@ use Rattle.index_table.specs.Pages.{pagesAt, nodeAt}
 use Rattle.index_table.specs.Soundness.{SoundBelow}
 use Rattle.index_table.proofs.NumberLaws.{Bytes}
 use Rattle.index_table.proofs.PageRows.{refs-fit}
-use Rattle.table_delete.specs.Keeping.{depthOf, Linked}
+use Rattle.tree_delete.specs.Keeping.{Linked}
 
 module _ (e P : ℕ) (b : List ℕ) where
   abbrev L : Layout

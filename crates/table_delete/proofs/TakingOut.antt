@@ -10,6 +10,7 @@ use Rattle.leaf_list.specs.Keys.{bits}
 use Rattle.leaf_list.specs.Search.{positions}
 use Rattle.leaf_list.proofs.Positions.{positions-beyond, positions-rise}
 use Rattle.page_tree.specs.Rows.{lastDepth}
+use Rattle.page_tree.specs.Row.{depthOf}
 use Rattle.page_tree.specs.Tree.{Node, depth}
 use Rattle.page_tree.specs.OffPages.{Left, deleteBelow, lower}
 use Rattle.page_tree.specs.Numbered.{Numbered, aside, treeAside, deleteNumbered, lowerNumbered, rootedNumbered}
@@ -22,13 +23,13 @@ use Rattle.index_table.proofs.NumberLaws.{Bytes}
 use Rattle.index_table.proofs.NumberedPages.{numbered-aside, numbereds-aside, tree-aside}
 use Rattle.index_table.proofs.SoundNodes.{sound-tree, tree-depth}
 use Rattle.table_search.specs.Places.{NextPosition}
-use Rattle.table_delete.specs.declared.entries.Remnant.{Remnant}
-use Rattle.table_delete.specs.Keeping.{depthOf, numbersAt, Linked, Kept}
-use Rattle.table_delete.specs.Entries.{parts}
-use Rattle.table_delete.specs.Unwinding.{Done}
-use Rattle.table_delete.specs.Removing.{RemovePre, RemovePost}
+use Rattle.tree_delete.specs.declared.entries.Remnant.{Remnant}
+use Rattle.tree_delete.specs.Keeping.{numbersAt, Linked, Kept}
+use Rattle.tree_delete.specs.Entries.{parts}
+use Rattle.tree_delete.specs.Unwinding.{Done}
+use Rattle.tree_delete.specs.Removing.{RemovePre, RemovePost}
 use Rattle.table_delete.specs.Taking.{LowerPre, LowerPost, TakePre, TakePost}
-use Rattle.table_delete.proofs.SweepTurns.{paged-then}
+use Rattle.tree_delete.proofs.SweepTurns.{paged-then}
 use Rattle.table_delete.proofs.SoundLinks.{sound-linked, linked-depth, linked-sound}
 use Rattle.table_delete.proofs.RootLeft.{LeftAtRoot, root-left, SoundRoot, lowered-root}
 

@@ -3,16 +3,15 @@ use mathlib.Core.Path.{_≡_}
 use mathlib.Core.Bool.{Bool, true, false}
 use mathlib.Core.List.{List, [], _∷_}
 use Prim.Native.Nat.{ℕ, _≤_, _<_}
-use Rattle.page_tree.specs.Rows.{All}
 use Rattle.page_tree.specs.declared.Unwind.{Unwind}
 use Rattle.page_tree.specs.Numbered.{deleteNumbered}
 use Rattle.index_table.specs.Layout.{layoutOf, Ref, pageBytes}
 use Rattle.index_table.specs.Pages.{pagesAt, numberedAt, met}
-use Rattle.index_table.specs.Soundness.{SizedPage, Cleared}
+use Rattle.index_table.specs.Soundness.{Cleared}
 use Rattle.table_search.specs.Places.{leftFrom}
-use Rattle.table_delete.specs.Keeping.{Linked, Paged, Kept}
-use Rattle.table_delete.specs.Removing.{RemovePre}
-use Rattle.table_delete.specs.OnePage.{Calm}
+use Rattle.tree_delete.specs.Keeping.{Kept}
+use Rattle.tree_delete.specs.Removing.{RemovePre}
+use Rattle.page_delete.specs.OnePage.{Calm}
 
 -- The entry x of rank n stays where ν follows it, and what is asked changes no entry of the depth τ before it. Above level 0 its page stays too.
 pub record Quiet (e P n : ℕ) (b : List ℕ) (x : Ref) (bs : List ℕ) (τ ν : ℕ) (b′ : List ℕ) : Type 0 where
@@ -21,12 +20,6 @@ pub record Quiet (e P n : ℕ) (b : List ℕ) (x : Ref) (bs : List ℕ) (τ ν :
   pub calm : Calm τ asked
   pub left : deleteNumbered n ν bs τ (numberedAt 65535 n (pagesAt (layoutOf e) b) x) ≡ (numberedAt 65535 n (pagesAt (layoutOf e) b′) x ∷ [], asked)
   pub page : 2 ≤ n → pagesAt (layoutOf e) b′ (x .1) ≡ pagesAt (layoutOf e) b (x .1)
-
--- A page of level n whose entries can be read.
-pub record BesidePre (e P n : ℕ) (b : List ℕ) (page : ℕ) : Type 0 where
-  pub paged : Paged e P b
-  pub sized : SizedPage (layoutOf e) P n b page
-  pub linked : All (Linked (layoutOf e) P n b) (pagesAt (layoutOf e) b page)
 
 -- An entry to remove from, in a table whose unused entries are zero.
 pub record BlankPre (e P n : ℕ) (b : List ℕ) (x : Ref) (w key position : ℕ) : Type 0 where

@@ -16,7 +16,7 @@ use Rattle.index_table.specs.Standing.{TreeTable, Owned}
 use Rattle.index_table.specs.declared.layout.Root.{Root}
 use Rattle.table_search.specs.declared.Leaf.{Leaf}
 use Rattle.table_search.specs.Places.{NextPosition, Way}
-use Rattle.table_delete.specs.Keeping.{numbersAt, Linked, Paged}
+use Rattle.tree_delete.specs.Keeping.{numbersAt, Linked, Paged}
 
 -- A root page of level n, below which pages may be changed.
 pub record LowerPre (e P n : ℕ) (b : List ℕ) (p : ℕ) : Type 0 where

@@ -1,26 +1,21 @@
-// Deletion in the pages of a sound tree: figure 11 over the whole list, across pages.
+// Deletion in the pages of a sound tree: within a page where that is enough, else across pages; and the root rule.
 ghost use mathlib.Core.Path.{_≡_};
 ghost use Rattle.table_delete.specs.Taking.{LowerPre, LowerPost, TakePre, TakeAtPre, TakePost};
 
 pub mod blank;
-pub mod entries;
-pub mod near;
-pub mod removal;
-pub mod rows;
-pub mod unwinding;
 
 use crate::blank::blank;
-use crate::near::strike_near;
-use crate::removal::remove;
-use crate::rows::page_of;
-use crate::rows::pointer_to;
 use index_table::layout::PageNo;
 use index_table::layout::Root;
 use index_table::layout::child;
 use index_table::layout::count;
 use index_table::write::free_page;
+use page_delete::strike_near;
 use table_search::Leaf;
 use table_search::next_position;
+use tree_delete::removal::remove;
+use tree_delete::rows::page_of;
+use tree_delete::rows::pointer_to;
 
 // The root rule: a root above level 0 with one entry is freed, and its child is the root.
 fn lower(index: &mut [u8], e: u8, pages: u16, level: u8, page: PageNo) -> Root

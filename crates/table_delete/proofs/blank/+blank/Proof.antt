@@ -1,6 +1,6 @@
 -- Level by level: the page is searched, and on level 0 the entry may become a dummy. Assumes nothing.
 use native.Mathlib.Omega.{arith}
-use Rattle.table_delete.proofs.Blanks.{blank-seek, blank-beside, blank-read, blank-few, blank-give, blank-struck, blank-down, blank-up}
+use Rattle.table_delete.proofs.Blanks.{blank-seek, blank-after, blank-read, blank-few, blank-give, blank-struck, blank-down, blank-up}
 use borrow.Author.Needs.{needs}
 use Prim.Native.Nat.{ℕ, _<_}
 use borrow.Fn.Kinds.{In}
@@ -10,8 +10,8 @@ use Rattle.table_delete.proofs.blank.blank.Kinds as blank-kinds
 use Rattle.table_delete.proofs.blank.+blank.Lts-blank as blank-lts
 use Rattle.index_table.proofs.layout.child.Reads as child-reads
 use Rattle.index_table.proofs.layout.depth.Reads as depth-reads
-use Rattle.table_delete.proofs.blank.beside.Reads as beside-reads
-use Rattle.table_delete.proofs.blank.blank_entry.Reads as blank-entry-reads
+use Rattle.tree_delete.proofs.removal.after.Reads as after-reads
+use Rattle.page_delete.proofs.blank_entry.Reads as blank-entry-reads
 use Rattle.table_search.proofs.seek.Reads as seek-reads
 use Rattle.table_delete.proofs.blank.+blank.{statement}
 use Rattle.table_delete.proofs.blank.+blank.Tie.{close}
@@ -28,8 +28,8 @@ blank-below t = and 1 blank-kinds.ps (falls 1 blank-kinds.ps _<_ μ-blank t) bla
 blank-seek-requires : (t : ℕ) → blank-lts.Need-seek-requires (
   seek-reads.Asked,
   seek-reads.Learnt,
-  beside-reads.Asked,
-  beside-reads.Learnt,
+  after-reads.Asked,
+  after-reads.Learnt,
   depth-reads.Asked,
   depth-reads.Learnt,
   blank-entry-reads.Asked,
@@ -41,11 +41,11 @@ blank-seek-requires : (t : ℕ) → blank-lts.Need-seek-requires (
 ) (blank-at t) blank.Post
 blank-seek-requires t c κs = blank-seek (c .before .before .pre .1)
 
-blank-add-beside : (t : ℕ) → blank-lts.Need-add-beside (
+blank-add-after : (t : ℕ) → blank-lts.Need-add-after (
   seek-reads.Asked,
   seek-reads.Learnt,
-  beside-reads.Asked,
-  beside-reads.Learnt,
+  after-reads.Asked,
+  after-reads.Learnt,
   depth-reads.Asked,
   depth-reads.Learnt,
   blank-entry-reads.Asked,
@@ -55,13 +55,13 @@ blank-add-beside : (t : ℕ) → blank-lts.Need-add-beside (
   blank-below t,
   blank.Post,
 ) (blank-at t) blank.Post
-blank-add-beside t c = let k = blank-few (c .before .before .before .before .pre .1) _ (c .before .seek .ensures) in omega (arith, k, c .before .before .before .before .fits .e)
+blank-add-after t c = let k = blank-few (c .before .before .before .before .pre .1) _ (c .before .seek .ensures) in omega (arith, k, c .before .before .before .before .fits .e)
 
-blank-beside-requires : (t : ℕ) → blank-lts.Need-beside-requires (
+blank-after-requires : (t : ℕ) → blank-lts.Need-after-requires (
   seek-reads.Asked,
   seek-reads.Learnt,
-  beside-reads.Asked,
-  beside-reads.Learnt,
+  after-reads.Asked,
+  after-reads.Learnt,
   depth-reads.Asked,
   depth-reads.Learnt,
   blank-entry-reads.Asked,
@@ -71,13 +71,13 @@ blank-beside-requires : (t : ℕ) → blank-lts.Need-beside-requires (
   blank-below t,
   blank.Post,
 ) (blank-at t) blank.Post
-blank-beside-requires t c κs = blank-beside (c .before .before .before .before .pre .1)
+blank-after-requires t c κs = blank-after (c .before .before .before .before .pre .1)
 
 blank-depth-requires : (t : ℕ) → blank-lts.Need-depth-requires (
   seek-reads.Asked,
   seek-reads.Learnt,
-  beside-reads.Asked,
-  beside-reads.Learnt,
+  after-reads.Asked,
+  after-reads.Learnt,
   depth-reads.Asked,
   depth-reads.Learnt,
   blank-entry-reads.Asked,
@@ -94,8 +94,8 @@ blank-depth-requires t c κs =
 blank-blank-entry-requires : (t : ℕ) → blank-lts.Need-blank-entry-requires (
   seek-reads.Asked,
   seek-reads.Learnt,
-  beside-reads.Asked,
-  beside-reads.Learnt,
+  after-reads.Asked,
+  after-reads.Learnt,
   depth-reads.Asked,
   depth-reads.Learnt,
   blank-entry-reads.Asked,
@@ -114,8 +114,8 @@ blank-blank-entry-requires t c κs =
 blank-same-length : (t : ℕ) → blank-lts.Need-same-length (
   seek-reads.Asked,
   seek-reads.Learnt,
-  beside-reads.Asked,
-  beside-reads.Learnt,
+  after-reads.Asked,
+  after-reads.Learnt,
   depth-reads.Asked,
   depth-reads.Learnt,
   blank-entry-reads.Asked,
@@ -130,8 +130,8 @@ blank-same-length t c = search needs
 blank-returns : (t : ℕ) → blank-lts.Need-returns (
   seek-reads.Asked,
   seek-reads.Learnt,
-  beside-reads.Asked,
-  beside-reads.Learnt,
+  after-reads.Asked,
+  after-reads.Learnt,
   depth-reads.Asked,
   depth-reads.Learnt,
   blank-entry-reads.Asked,
@@ -143,15 +143,15 @@ blank-returns : (t : ℕ) → blank-lts.Need-returns (
 ) (blank-at t) blank.Post
 blank-returns t c =
     let tested = c .before .before .before .before in
-    let beside = tested .before .before .before in
-    let seek = beside .before .before in
-    blank-struck _ (seek .before .before .before .pre .1) _ (seek .seek .ensures) (tested .if1 .taken) _ (beside .beside .ensures) _ _ (c .before .before .blank-entry .ensures)
+    let after = tested .before .before .before in
+    let seek = after .before .before in
+    blank-struck _ (seek .before .before .before .pre .1) _ (seek .seek .ensures) (tested .if1 .taken) _ (after .after .ensures) _ _ (c .before .before .blank-entry .ensures)
 
 blank-child-requires : (t : ℕ) → blank-lts.Need-child-requires (
   seek-reads.Asked,
   seek-reads.Learnt,
-  beside-reads.Asked,
-  beside-reads.Learnt,
+  after-reads.Asked,
+  after-reads.Learnt,
   depth-reads.Asked,
   depth-reads.Learnt,
   blank-entry-reads.Asked,
@@ -168,8 +168,8 @@ blank-child-requires t c κs =
 blank-sub-blank : (t : ℕ) → blank-lts.Need-sub-blank (
   seek-reads.Asked,
   seek-reads.Learnt,
-  beside-reads.Asked,
-  beside-reads.Learnt,
+  after-reads.Asked,
+  after-reads.Learnt,
   depth-reads.Asked,
   depth-reads.Learnt,
   blank-entry-reads.Asked,
@@ -184,8 +184,8 @@ blank-sub-blank t c = search needs
 blank-blank-requires : (t : ℕ) → blank-lts.Need-blank-requires (
   seek-reads.Asked,
   seek-reads.Learnt,
-  beside-reads.Asked,
-  beside-reads.Learnt,
+  after-reads.Asked,
+  after-reads.Learnt,
   depth-reads.Asked,
   depth-reads.Learnt,
   blank-entry-reads.Asked,
@@ -206,8 +206,8 @@ blank-blank-requires t c κs =
 blank-same-length-2 : (t : ℕ) → blank-lts.Need-same-length-2 (
   seek-reads.Asked,
   seek-reads.Learnt,
-  beside-reads.Asked,
-  beside-reads.Learnt,
+  after-reads.Asked,
+  after-reads.Learnt,
   depth-reads.Asked,
   depth-reads.Learnt,
   blank-entry-reads.Asked,
@@ -222,8 +222,8 @@ blank-same-length-2 t c = search needs
 blank-returns-2 : (t : ℕ) → blank-lts.Need-returns-2 (
   seek-reads.Asked,
   seek-reads.Learnt,
-  beside-reads.Asked,
-  beside-reads.Learnt,
+  after-reads.Asked,
+  after-reads.Learnt,
   depth-reads.Asked,
   depth-reads.Learnt,
   blank-entry-reads.Asked,
@@ -237,17 +237,17 @@ blank-returns-2 t c =
     let child = c .before .before .before .before in
     let tested = child .before .before in
     let depth = tested .before in
-    let beside = depth .before .before in
-    let seek = beside .before .before in
+    let after = depth .before .before in
+    let seek = after .before .before in
     let start = seek .before .before .before in
-    blank-up _ (start .pre .1) _ (seek .seek .ensures) (tested .if1 .left) (depth .depth .ensures) (child .child .ensures) _ (beside .beside .ensures) _ _ (c .before .before .blank .ensures)
+    blank-up _ (start .pre .1) _ (seek .seek .ensures) (tested .if1 .left) (depth .depth .ensures) (child .child .ensures) _ (after .after .ensures) _ _ (c .before .before .blank .ensures)
 
 pub +blank-spec : {M : Type 1} → statement M
 +blank-spec = close μ-blank λ t. blank-lts.spec (
   seek-reads.Asked,
   seek-reads.Learnt,
-  beside-reads.Asked,
-  beside-reads.Learnt,
+  after-reads.Asked,
+  after-reads.Learnt,
   depth-reads.Asked,
   depth-reads.Learnt,
   blank-entry-reads.Asked,
@@ -260,8 +260,8 @@ pub +blank-spec : {M : Type 1} → statement M
     (blank-at t)
     blank.Post
     (blank-seek-requires t)
-    (blank-add-beside t)
-    (blank-beside-requires t)
+    (blank-add-after t)
+    (blank-after-requires t)
     (blank-depth-requires t)
     (blank-blank-entry-requires t)
     (blank-same-length t)

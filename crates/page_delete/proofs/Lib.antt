@@ -1,0 +1,2 @@
+pub mod NearRows
+pub mod StayingEntries

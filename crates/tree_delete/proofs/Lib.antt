@@ -1,0 +1,11 @@
+pub mod EntryTurns
+pub mod CalmRows
+pub mod Following
+pub mod FoundPlaces
+pub mod Frames
+pub mod RemovalSteps
+pub mod Removals
+pub mod RowChanges
+pub mod Settling
+pub mod SweepTurns
+pub mod Sweeps
