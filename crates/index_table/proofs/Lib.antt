@@ -12,6 +12,7 @@ pub mod UsedPages
 pub mod HeaderLaws
 pub mod Writing
 pub mod RowWriting
+pub mod MovedBytes
 pub mod OpenedPages
 pub mod StandingLaws
 pub mod NumberedPages

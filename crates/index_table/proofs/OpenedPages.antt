@@ -1,119 +1,29 @@
--- Bytes moved up in a page, and a row written into the room (01, "Pages"). Assumes nothing.
+-- A page whose entries behind a place are moved up, and a row written into the room (01, "Pages"). Assumes nothing.
 use mathlib.Core.Path.{_≡_, refl, sym, ap, ap₂, _∙_}
 use mathlib.Core.List.{List, [], _∷_, _++_, append-assoc}
 use Prim.Native.Nat.{ℕ, zero, suc, _+_, _*_, _-_, _≤_, _<_, _/_, _%_}
 use native.Mathlib.Omega.{arith}
 use lib.ListN.{length, getD, take, drop, set, replicate, length-set, length-drop, length-append, length-replicate, take-append-drop}
-use lib.Seq.{sets, sets-eq, set-comm, set-set, set-getD, drop-cons, take-take, drop-drop, take-add, take-at, drop-at, split-at, drop-append-add, length-take-le}
+use lib.Seq.{sets-eq, drop-drop, take-add, take-at, drop-at, split-at, drop-append-add, length-take-le}
 use Rattle.index_table.specs.Bytes.{numberAfter, over, table}
 use Rattle.index_table.specs.Layout.{Layout, layoutOf, Ref, pageSize, pageStart, pageBytes, levelOf, countOf, firstRef, refAt, refsOf, refBytes, rowBytes, pageOf, rowPage, store}
 use Rattle.index_table.specs.Pages.{pagesAt}
 use Rattle.index_table.specs.Soundness.{Cleared}
 use Rattle.index_table.specs.Storing.{Openable, Opened, splicedAt}
-use Rattle.index_table.proofs.ListLaws.{length-over, over-none, take-drop, getD-over-before, drop-table}
+use Rattle.index_table.proofs.ListLaws.{length-over, drop-table}
+use Rattle.index_table.proofs.MovedBytes.{set-over, set-inside, over-inside, over-self, part-part}
 use Rattle.index_table.proofs.NumberLaws.{bytes-two, Bytes, drop-bytes, take-bytes}
 use Rattle.index_table.proofs.PageBytes.{length-page-bytes}
 use Rattle.index_table.proofs.PageRows.{length-refs, length-ref-bytes, length-row-bytes, row-bytes-append}
 use Rattle.index_table.proofs.StoredRows.{all-zeros}
 
--- ---- stores into what was written
-
-module _ {A : Type 0} where
-  -- A store before what was written.
-  set-over : (l : List A) (k : ℕ) (vs : List A) (i : ℕ) (a : A) → i < k → set (over l k vs) i a ≡ over (set l i a) k vs
-  unfolding over
-  set-over l k [] i a h = refl
-  set-over l k (v ∷ vs) i a h = set-over (set l k v) (suc k) vs i a (omega arith) ∙ ap (λ (m : List A). sets m (suc k) vs) (set-comm l k i v a (λ e. omega (arith, e)))
-
-  -- One more in front.
-  over-front : (l : List A) (k : ℕ) (vs : List A) (a : A) → set (over l (suc k) vs) k a ≡ over l k (a ∷ vs)
-  unfolding over
-  over-front l k vs a = set-over l (suc k) vs k a (omega arith)
-
-  -- A store inside it.
-  set-inside : (l : List A) (s k : ℕ) (vs : List A) (a : A) → k < length vs → set (over l s vs) (s + k) a ≡ over l s (set vs k a)
-  unfolding over
-  set-inside l s k [] a h = absurd (omega arith)
-  set-inside l s zero (v ∷ vs) a h =
-      ap (λ (n : ℕ). set (sets (set l s v) (suc s) vs) n a) (let e : s + 0 ≡ s = omega arith in e)
-      ∙ set-over (set l s v) (suc s) vs s a (omega arith)
-      ∙ ap (λ (m : List A). sets m (suc s) vs) (set-set l s v a)
-  set-inside l s (suc k) (v ∷ vs) a h =
-      ap (λ (n : ℕ). set (sets (set l s v) (suc s) vs) n a) (let e : s + suc k ≡ suc s + k = omega arith in e)
-      ∙ set-inside (set l s v) (suc s) k vs a (omega arith)
-
-  -- A list written inside it.
-  over-inside : (l : List A) (s k : ℕ) (vs ws : List A) → k + length ws ≤ length vs → over (over l s vs) (s + k) ws ≡ over l s (over vs k ws)
-  unfolding over
-  over-inside l s k vs [] h = refl
-  over-inside l s k vs (w ∷ ws) h =
-      ap₂ (λ (m : List A) (n : ℕ). sets m n ws) (set-inside l s k vs w (omega arith)) (let e : suc (s + k) ≡ s + suc k = omega arith in e)
-      ∙ over-inside l s (suc k) (set vs k w) ws (omega (arith, length-set vs k w))
-
-  -- A part written over itself.
-  over-self : (l : List A) (s n : ℕ) (d : A) → s + n ≤ length l → over l s (take n (drop s l)) ≡ l
-  unfolding over
-  over-self l s zero d h = refl
-  over-self l s (suc n) d h =
-      ap (λ (m : List A). sets l s (take (suc n) m)) (drop-cons l s d (omega arith))
-      ∙ ap (λ (m : List A). sets m (suc s) (take n (drop (suc s) l))) (set-getD l s d)
-      ∙ over-self l (suc s) n d (omega arith)
-
-  -- A list in the place of another of its length.
-  over-between : (xs ys zs vs : List A) (k : ℕ) → length xs ≡ k → length vs ≡ length ys → over (xs ++ ys ++ zs) k vs ≡ xs ++ vs ++ zs
-  unfolding over
-  over-between xs ys zs vs k h g =
-      let n : length (xs ++ ys) ≡ k + length vs = length-append xs ys ∙ omega arith in
-      sets-eq vs (xs ++ ys ++ zs) k (omega (arith, length-append (xs ++ ys) zs, n))
-      ∙ ap₂ (λ (a b : List A). a ++ vs ++ b) (ap (take k) (append-assoc xs ys zs) ∙ take-at xs (ys ++ zs) k h) (drop-at (xs ++ ys) zs (k + length vs) n)
-
-  -- A part of a part.
-  part-part : (l : List A) (s n j m : ℕ) → j + m ≤ n → take m (drop j (take n (drop s l))) ≡ take m (drop (s + j) l)
-  part-part l s n j m h =
-      take-drop j m (take n (drop s l)) ∙ ap (drop j) (take-take (j + m) n (drop s l) h) ∙ sym (take-drop j m (drop s l)) ∙ ap (take m) (drop-drop j s l)
-
--- ---- bytes moved up
-
--- The bytes from place i of n on are moved.
-pub record Moved (b₀ : List ℕ) (from n by i : ℕ) (b : List ℕ) : Type 0 where
-  pub long : length b ≡ length b₀
-  pub left : i ≤ n
-  pub bytes : b ≡ over b₀ (from + by + i) (take (n - i) (drop (from + i) b₀))
-
--- None yet.
-pub moved-none : (b : List ℕ) (from n by : ℕ) → Moved b from n by n b
-moved-none b from n by =
-    record { long = refl; left = omega arith; bytes = over-none b (from + by + n) ∙ ap (λ (k : ℕ). over b (from + by + n) (take k (drop (from + n) b))) (let e : 0 ≡ n - n = omega arith in e) }
-
--- One more.
-pub moved-more : {b₀ : List ℕ} {from n by i : ℕ} {b : List ℕ} → Moved b₀ from n by i b → 0 < i → from + n + by ≤ length b₀
-    → Moved b₀ from n by (i - 1) (set b (from + by + (i - 1)) (getD b (from + (i - 1)) 0))
-moved-more {b₀} {from} {n} {by} {i} {b} h some room =
-    let j : ℕ = i - 1 in
-    let e : i ≡ suc j = omega arith in
-    let m : n - j ≡ suc (n - i) = omega (arith, h .left) in
-    let place : from + by + i ≡ suc (from + by + j) = omega arith in
-    let next : from + i ≡ suc (from + j) = omega arith in
-    let rest : List ℕ = take (n - i) (drop (from + i) b₀) in
-    let read : getD b (from + j) 0 ≡ getD b₀ (from + j) 0 = ap (λ (l : List ℕ). getD l (from + j) 0) (h .bytes) ∙ getD-over-before b₀ (from + by + i) (from + j) rest 0 (omega arith) in
-    record {
-      long = length-set b (from + by + j) (getD b (from + j) 0) ∙ h .long;
-      left = omega (arith, h .left);
-      bytes =
-          ap₂ (λ (l : List ℕ) (x : ℕ). set l (from + by + j) x) (h .bytes ∙ ap (λ (k : ℕ). over b₀ k rest) place) read
-          ∙ over-front b₀ (from + by + j) rest (getD b₀ (from + j) 0)
-          ∙ ap (over b₀ (from + by + j))
-          (sym (ap₂ (λ (k : ℕ) (l : List ℕ). take k l) m (drop-cons b₀ (from + j) 0 (omega (arith, h .left))) ∙ ap (λ (k : ℕ). getD b₀ (from + j) 0 ∷ take (n - i) (drop k b₀)) (sym next)));
-    }
-
--- All.
-pub moved-all : {b₀ : List ℕ} {from n by i : ℕ} {b : List ℕ} → Moved b₀ from n by i b → i ≤ 0 → b ≡ over b₀ (from + by) (take n (drop from b₀))
-moved-all {b₀} {from} {n} {by} {i} h z =
-    let e : i ≡ 0 = omega arith in
-    let p : from + by + 0 ≡ from + by = omega arith in
-    let f : from + 0 ≡ from = omega arith in
-    let m : n - 0 ≡ n = omega arith in
-    rw (e, p, f, m) at (h .bytes)
+-- A list in the place of another of its length.
+over-between : {A : Type 0} (xs ys zs vs : List A) (k : ℕ) → length xs ≡ k → length vs ≡ length ys → over (xs ++ ys ++ zs) k vs ≡ xs ++ vs ++ zs
+unfolding over
+over-between {A} xs ys zs vs k h g =
+    let n : length (xs ++ ys) ≡ k + length vs = length-append xs ys ∙ omega arith in
+    sets-eq vs (xs ++ ys ++ zs) k (omega (arith, length-append (xs ++ ys) zs, n))
+    ∙ ap₂ (λ (a b : List A). a ++ vs ++ b) (ap (take k) (append-assoc xs ys zs) ∙ take-at xs (ys ++ zs) k h) (drop-at (xs ++ ys) zs (k + length vs) n)
 
 -- ---- a page is its head, its row and zeros
 

@@ -1,13 +1,12 @@
 -- A page's bytes changed in part: those of one entry, or of the entries behind some that go (01, "Pages"). Assumes nothing.
 use mathlib.Core.Path.{_≡_, sym, ap, ap₂, _∙_}
-use mathlib.Core.List.{List, [], _∷_, _++_, append-assoc}
-use Prim.Native.Nat.{ℕ, suc, _+_, _≤_, _<_}
+use mathlib.Core.List.{List, _++_, append-assoc}
+use Prim.Native.Nat.{ℕ, _+_}
 use native.Mathlib.Omega.{arith}
-use lib.ListN.{length, getD, take, drop, set, length-append, length-take, length-drop, take-append-drop}
-use lib.Seq.{sets-eq, take-append-seam, drop-at, drop-drop, take-suc, getD-drop, length-take-le}
+use lib.ListN.{length, take, drop, length-append, length-take, length-drop, take-append-drop}
+use lib.Seq.{sets-eq, take-append-seam, drop-at, drop-drop, length-take-le}
 use Rattle.index_table.specs.Bytes.{over}
 use Rattle.index_table.specs.Layout.{Layout, pageSize, pageStart, Within, pageBytes, store}
-use Rattle.index_table.proofs.ListLaws.{over-one, over-append, getD-over-behind}
 
 -- ---- lists
 
@@ -27,22 +26,6 @@ module _ {A : Type 0} where
       (append-assoc (take i l) (take n (drop i l)) (drop (i + n) l)
       ∙ ap (λ (t : List A). take i l ++ (take n (drop i l) ++ t)) (sym (drop-drop n i l))
       ∙ ap (λ (t : List A). take i l ++ t) (take-append-drop n (drop i l)) ∙ take-append-drop i l)
-
--- One byte more is moved down.
-pub move-more : (b₀ b : List ℕ) (at from i : ℕ) → at ≤ from → from + i < length b₀ → b ≡ over b₀ at (take i (drop from b₀))
-    → set b (at + i) (getD b (from + i) 0) ≡ over b₀ at (take (i + 1) (drop from b₀))
-move-more b₀ b at from i h l e =
-    let n : length (take i (drop from b₀)) ≡ i = length-take i (drop from b₀) ∙ omega (arith, length-drop from b₀) in
-    let v : getD b (from + i) 0 ≡ getD b₀ (from + i) 0 = rw e (getD-over-behind b₀ at (from + i) (take i (drop from b₀)) 0 (omega (arith, n))) in
-    let k : i + 1 ≡ suc i = omega arith in
-    over-one b (at + i) (getD b (from + i) 0)
-    ∙ ap₂ (λ (m : List ℕ) (j : ℕ). over m (at + j) (getD b (from + i) 0 ∷ [])) e (sym n)
-    ∙ over-append b₀ at (take i (drop from b₀)) (getD b (from + i) 0 ∷ [])
-    ∙ ap (over b₀ at) (ap (λ (x : ℕ). take i (drop from b₀) ++ x ∷ []) (v ∙ sym (getD-drop from b₀ i 0)) ∙ sym (take-suc (drop from b₀) i 0 (omega (arith, length-drop from b₀))) ∙ ap (λ (j : ℕ). take j (drop from b₀)) (sym k))
-
--- All bytes are moved.
-pub move-end : (b₀ b : List ℕ) (at from i n : ℕ) → b ≡ over b₀ at (take i (drop from b₀)) → i ≤ n → n ≤ i → b ≡ over b₀ at (take n (drop from b₀))
-move-end b₀ b at from i n h x y = let e : n ≡ i = omega arith in rw e h
 
 -- ---- a page's bytes
 

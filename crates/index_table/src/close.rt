@@ -1,8 +1,7 @@
 // Pages changed within their own bytes: an entry replaced, entries taken out.
 ghost use mathlib.Core.Path.{_≡_};
-ghost use Prim.Native.Nat.{_+_, _≤_, _<_};
-ghost use lib.ListN.{length, take, drop, set};
-ghost use Rattle.index_table.specs.Bytes.{over};
+ghost use Prim.Native.Nat.{_≤_, _<_};
+ghost use lib.ListN.{length, set};
 ghost use Rattle.index_table.specs.Layout.{layoutOf};
 ghost use Rattle.index_table.specs.Pages.{pagesAt};
 ghost use Rattle.index_table.specs.Changing.{WholePage, withRow, without};
@@ -10,20 +9,9 @@ use crate::layout::PageNo;
 use crate::layout::count;
 use crate::layout::page_start;
 use crate::layout::wide;
+use crate::moves::move_down;
 use crate::write::clear;
 use crate::write::write_entry;
-
-// n bytes moved down to `at`.
-fn move_down(index: &mut [u8], at: usize, from: usize, n: usize)
-    requires { ⌜ (at ≤ from) × (from + n ≤ length (now index)) ⌝ }
-    ensures { λ r. ⌜ now (index .exit) ≡ over (now (index .entry)) at (take n (drop from (now (index .entry)))) ⌝ }
-{
-    let mut i = 0;
-    while i < n {
-        index[at + i] = index[from + i];
-        i += 1;
-    }
-}
 
 // Another entry in the place of entry i of a page.
 pub fn replace_entry(index: &mut [u8], e: u8, page: PageNo, i: usize, d: u8, p: u32)

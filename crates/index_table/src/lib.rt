@@ -2,6 +2,7 @@
 pub mod close;
 pub mod header;
 pub mod layout;
+mod moves;
 pub mod open;
 pub mod rows;
 pub mod write;

@@ -1,26 +1,10 @@
 // Room made in a page for more entries, in the page's own bytes.
-ghost use mathlib.Core.Path.{_≡_};
-ghost use Prim.Native.Nat.{_+_, _≤_};
-ghost use lib.ListN.{length, take, drop};
-ghost use Rattle.index_table.specs.Bytes.{over};
 ghost use Rattle.index_table.specs.Storing.{Openable, Opened};
 use crate::layout::PageNo;
 use crate::layout::count;
 use crate::layout::page_start;
 use crate::layout::wide;
-
-// n bytes from one place on, moved up; the last first.
-fn move_up(index: &mut [u8], from: usize, n: usize, by: usize)
-    requires { ⌜ from + n + by ≤ length (now index) ⌝ }
-    ensures { λ r. ⌜ now (index .exit) ≡ over (now (index .entry)) (from + by) (take n (drop from (now (index .entry)))) ⌝ }
-{
-    let mut i = n;
-    while i > 0 {
-        i -= 1;
-        let x = index[from + i];
-        index[from + by + i] = x;
-    }
-}
+use crate::moves::move_up;
 
 // Room for c entries in the place of entry `at` of a page, counted as its own; where it starts.
 pub fn open_page(index: &mut [u8], e: u8, page: PageNo, at: usize, c: usize) -> usize
