@@ -1,8 +1,8 @@
 -- What on and off leave, from what their changes of pages leave. Assumes nothing.
-use mathlib.Core.Path.{_≡_, refl, sym, ap, subst, _∙_}
+use mathlib.Core.Path.{_≡_, refl, sym, subst, _∙_}
 use mathlib.Core.Bool.{Bool, true, false, cond}
-use mathlib.Core.Option.{none, some}
-use mathlib.Core.List.{List, [], _∷_, map}
+use mathlib.Core.Option.{some}
+use mathlib.Core.List.{List, [], _∷_}
 use Prim.Native.Nat.{ℕ, suc, _-_, _^_, _≤_, _<_}
 use native.Mathlib.Omega.{arith}
 use lib.Dec.{eqb}
@@ -10,27 +10,26 @@ use lib.ListN.{length, set, take}
 use Rattle.leaf_list.specs.Keys.{bits}
 use Rattle.leaf_list.specs.Herd.{lookup}
 use Rattle.leaf_list.specs.Search.{positions}
-use Rattle.leaf_list.specs.Register.{keyAt, inUse, herdOf, countInUse}
-use Rattle.page_tree.specs.Row.{rowOf}
+use Rattle.leaf_list.specs.Register.{keyAt, herdOf, countInUse}
 use Rattle.page_tree.specs.Rows.{All}
 use Rattle.page_tree.specs.Tree.{Tree}
-use Rattle.page_tree.specs.Finding.{Found, findIn}
-use Rattle.page_tree.specs.OnPages.{Replacement, newEntries, insertTree}
-use Rattle.page_tree.specs.Numbered.{NumberedTree, treeAside, insertNumberedTree, onNumbered, offNumbered}
+use Rattle.page_tree.specs.Finding.{findIn}
+use Rattle.page_tree.specs.OnPages.{Replacement, newEntries}
+use Rattle.page_tree.specs.Numbered.{onNumbered, offNumbered}
 use Rattle.page_tree.specs.declared.Row.{Row}
 use Rattle.page_tree.proofs.NumberedLaws.{AgreeAt, insertTree-here, insertNumberedTree-here}
 use Rattle.index_table.specs.Layout.{layoutOf}
 use Rattle.index_table.specs.Header.{widthOf, entriesOf, pagesOf, rootOf, heldOf, withRoot, withHeld, HeaderFrom}
-use Rattle.index_table.specs.Pages.{pagesAt, leafOf, numberedTreeAt}
+use Rattle.index_table.specs.Pages.{pagesAt, numberedTreeAt}
 use Rattle.index_table.specs.Soundness.{Sound, SoundPages, rootLevel, treeOf, numberedTreeOf}
 use Rattle.index_table.specs.Standing.{TreeTable}
 use Rattle.index_table.specs.Storing.{newLeaves}
 use Rattle.index_table.proofs.SoundTables.{header-long, leaf-depths}
 use Rattle.table_search.specs.declared.Leaf.{Leaf}
 use Rattle.table_change.specs.Changes.{treeAfterOn, OnDone, OffDone}
-use Rattle.table_change.specs.Entries.{entriesIn}
-use Rattle.table_change.specs.News.{foundFor, NewsFor, NewKey}
-use Rattle.table_change.specs.Repaging.{HeldKey, Repaged, OnPages, treeWith, numberedWith}
+use Rattle.index_change.specs.Repaging.{Repaged, OnPages, treeWith, numberedWith}
+use Rattle.table_change.specs.News.{NewsFor, NewKey}
+use Rattle.table_change.specs.FoundKeys.{HeldKey}
 use Rattle.table_change.proofs.Rerooted.{after-length, after-header, after-sound, after-tree}
 use Rattle.table_change.proofs.SoundAfter.{numbered-tree, on-keeps-sound, off-keeps-sound}
 

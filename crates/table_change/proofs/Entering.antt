@@ -15,11 +15,12 @@ use Rattle.table_search.specs.declared.Leaf.{Leaf}
 use Rattle.table_calls.specs.Places.{FoundLeaf}
 use Rattle.table_calls.proofs.FoundLeaves.{live-inside}
 use Rattle.table_change.specs.Changes.{isSome, isHeld, onRowOf}
-use Rattle.table_change.specs.Entries.{refsFor, FoundPre, NewEntries}
-use Rattle.table_change.specs.declared.entries.News.{News}
+use Rattle.new_entries.specs.Entries.{refsFor, FoundPre, NewEntries}
+use Rattle.new_entries.specs.declared.entries.News.{News}
 use Rattle.table_change.specs.News.{keyIs, FreeRecord, NewKey}
-use Rattle.table_change.specs.Repaging.{lateRowWith, OnPagesPre, FoundKey}
-use Rattle.table_change.proofs.NewLeaves.{news-long}
+use Rattle.index_change.specs.Repaging.{lateRowWith, OnPagesPre}
+use Rattle.table_change.specs.FoundKeys.{FoundKey}
+use Rattle.new_entries.proofs.NewLeaves.{news-long}
 use Rattle.table_change.proofs.FoundEntries.{not-held, held-is, found-pre, news-made, news-in}
 use Rattle.table_change.proofs.RowChoice.{on-held, on-late, splice-pre}
 

@@ -4,7 +4,7 @@ use mathlib.Core.Logic.{_≢_}
 use mathlib.Core.Bool.{Bool, true, false, cond}
 use mathlib.Core.Option.{Option, none, some}
 use mathlib.Core.List.{List, [], _∷_, map, reverseAux}
-use Prim.Native.Nat.{ℕ, zero, suc, _+_, _^_, _≤_, _<_}
+use Prim.Native.Nat.{ℕ, zero, suc, _^_, _≤_, _<_}
 use native.Mathlib.Omega.{arith}
 use lib.Dec.{eqb}
 use lib.ListN.{length, take, drop, length-map}
@@ -15,19 +15,18 @@ use Rattle.leaf_list.specs.Herd.{lookup}
 use Rattle.leaf_list.specs.LeafList.{leafList}
 use Rattle.leaf_list.specs.Search.{positions, search}
 use Rattle.leaf_list.specs.Insertion.{trailing, insertAt}
-use Rattle.leaf_list.specs.Register.{keyAt, inUse, herdOf}
+use Rattle.leaf_list.specs.Register.{keyAt, herdOf}
 use Rattle.leaf_list.proofs.Indexed.{foundIndex, search-index}
 use Rattle.leaf_list.proofs.Laws.{depths-law}
 use Rattle.page_tree.specs.Row.{rowOf, Holds}
 use Rattle.page_tree.specs.Rows.{All, Closed}
 use Rattle.page_tree.specs.Tree.{depth}
-use Rattle.page_tree.specs.Finding.{Found}
 use Rattle.page_tree.specs.declared.Row.{Row}
 use Rattle.page_tree.proofs.RowMaps.{closed-unmap}
 use Rattle.page_tree.proofs.HerdPages.{found-in-list, new-fits}
 use Rattle.index_table.specs.Layout.{Ref, Fitting}
 use Rattle.index_table.specs.Header.{widthOf}
-use Rattle.index_table.specs.Pages.{recordOf, leafOf}
+use Rattle.index_table.specs.Pages.{leafOf}
 use Rattle.index_table.specs.Soundness.{Sound, treeOf}
 use Rattle.index_table.proofs.SoundTables.{herd-narrow, herd-sorted, herd-keys, keys-narrow}
 use Rattle.index_table.proofs.LoadedRows.{row-with}
@@ -37,11 +36,12 @@ use Rattle.table_calls.specs.Answers.{plain, withRecord, found}
 use Rattle.table_calls.specs.Places.{FoundLeaf}
 use Rattle.table_calls.proofs.FoundLeaves.{dummy-absent, other-absent, live-found, live-inside}
 use Rattle.table_change.specs.Changes.{isSome, isHeld}
-use Rattle.table_change.specs.Entries.{entriesIn, entryOf, refsFor, FoundPre, NewEntries}
-use Rattle.table_change.specs.declared.entries.News.{News}
-use Rattle.table_change.specs.News.{keyIs, foundFor, NewsFor, NewKey}
-use Rattle.table_change.specs.Repaging.{rowFor}
-use Rattle.table_change.proofs.NewLeaves.{news-read, news-fit}
+use Rattle.new_entries.specs.Entries.{entriesIn, entryOf, refsFor, FoundPre, NewEntries}
+use Rattle.new_entries.specs.declared.entries.News.{News}
+use Rattle.table_change.specs.News.{keyIs, NewsFor}
+use Rattle.index_change.specs.Repaging.{foundFor}
+use Rattle.table_change.specs.FoundKeys.{rowFor}
+use Rattle.new_entries.proofs.NewLeaves.{news-read, news-fit}
 use Rattle.table_change.proofs.SoundAfter.{herd-tree}
 
 -- ---- an entry of a list whose entries have a property

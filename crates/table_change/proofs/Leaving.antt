@@ -19,7 +19,7 @@ use Rattle.table_calls.specs.Places.{FoundLeaf}
 use Rattle.table_calls.proofs.FoundLeaves.{live-found, live-inside}
 use Rattle.table_change.specs.Changes.{tooWide, offRowOf}
 use Rattle.table_change.specs.News.{keyIs}
-use Rattle.table_change.specs.Repaging.{HeldKey}
+use Rattle.table_change.specs.FoundKeys.{HeldKey}
 use Rattle.table_change.proofs.FoundEntries.{held-is}
 use Rattle.table_change.proofs.RowChoice.{find-found, off-absent, off-held}
 

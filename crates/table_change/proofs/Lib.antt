@@ -1,12 +1,8 @@
-pub mod Dummies
-pub mod NewLeaves
-pub mod NewsWriting
 pub mod Rerooted
 pub mod SoundAfter
 pub mod FoundEntries
 pub mod Leaving
 pub mod Changed
-pub mod Repaged
 pub mod RowChoice
 pub mod Entering
 pub mod Opening

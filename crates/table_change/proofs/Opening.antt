@@ -1,27 +1,22 @@
 -- A new key whose entries fit into the page found: that page alone is changed. Assumes nothing.
-use mathlib.Core.Path.{_≡_, refl, sym, ap, subst, _∙_}
+use mathlib.Core.Path.{_≡_, sym, ap, subst, _∙_}
 use mathlib.Core.Bool.{Bool, true}
 use mathlib.Core.List.{List}
-use Prim.Native.Nat.{ℕ, suc, _+_, _*_, _≤_, _<_}
+use Prim.Native.Nat.{ℕ, suc, _+_, _≤_, _<_}
 use native.Mathlib.Omega.{arith}
-use native.Mathlib.Numerals.{add-one}
 use lib.ListN.{length, set}
-use lib.Dec.{leb}
 use borrow.Author.Tests.{leb-true}
 use Rattle.page_tree.specs.Row.{rowOf}
 use Rattle.page_tree.specs.declared.Row.{Row}
-use Rattle.index_table.specs.Bytes.{over}
-use Rattle.index_table.specs.Layout.{layoutOf, Within, pageBytes, levelOf, countOf, rowBytes, rowPage, store}
+use Rattle.index_table.specs.Layout.{layoutOf, Within, pageBytes, levelOf, rowPage, store}
 use Rattle.index_table.specs.Header.{widthOf, entriesOf, pagesOf, rootOf, heldOf, withRoot, withHeld}
-use Rattle.index_table.specs.IndexNumbers.{IndexOf}
-use Rattle.index_table.specs.declared.header.Index.{Index}
 use Rattle.index_table.specs.Pages.{pagesAt}
 use Rattle.index_table.specs.Soundness.{SizedPage, rootLevel}
 use Rattle.index_table.specs.Standing.{TreeTable}
-use Rattle.index_table.specs.Storing.{splicedAt, Opened}
+use Rattle.index_table.specs.Storing.{splicedAt}
 use Rattle.index_table.proofs.NumberLaws.{Bytes}
 use Rattle.index_table.proofs.PageBytes.{within-table}
-use Rattle.index_table.proofs.PageRows.{length-refs, refs-fit}
+use Rattle.index_table.proofs.PageRows.{refs-fit}
 use Rattle.index_table.proofs.HeaderLaws.{root-kept}
 use Rattle.index_table.proofs.LoadedRows.{row-with}
 use Rattle.index_table.proofs.SoundTables.{header-long}
@@ -31,15 +26,16 @@ use Rattle.table_calls.specs.Places.{FoundLeaf}
 use Rattle.table_insert.proofs.Puttings.{root-descend}
 use Rattle.table_insert.proofs.FittingRows.{opened, fitting-low, fitting-put}
 use Rattle.table_change.specs.Changes.{onRowOf, OnDone}
-use Rattle.table_change.specs.declared.entries.News.{News}
-use Rattle.table_change.specs.Entries.{refsFor, Newly}
+use Rattle.new_entries.specs.declared.entries.News.{News}
+use Rattle.new_entries.specs.Entries.{refsFor, Newly}
 use Rattle.table_change.specs.News.{FreeRecord, NewKey}
-use Rattle.table_change.specs.Repaging.{Roomy, OnPages, roomFor, OpenPre, openedWith, rowFor, FoundKey, FittingKey}
+use Rattle.index_change.specs.Repaging.{Roomy, OnPages, roomFor, OpenPre, openedWith}
+use Rattle.table_change.specs.FoundKeys.{rowFor, FoundKey, FittingKey}
 use Rattle.table_change.proofs.Changed.{held-high, tree-table, on-entered}
-use Rattle.table_change.proofs.Repaged.{putting, pages-put}
+use Rattle.index_change.proofs.Repaged.{putting, pages-put}
 use Rattle.table_change.proofs.RowChoice.{splice-pre, roomy-late}
 use Rattle.table_change.proofs.Entering.{late-row-is}
-use Rattle.table_change.proofs.NewLeaves.{news-long}
+use Rattle.new_entries.proofs.NewLeaves.{news-long}
 
 -- The page found is a page of level 0.
 module _ {index keys used : List ℕ} {key r : ℕ} (h : FreeRecord index keys used key r) {leaf : Leaf} (found : FoundLeaf index keys used key leaf) where
@@ -136,23 +132,3 @@ module _ {index keys used : List ℕ} {key r : ℕ} {leaf : Leaf} {n : News} (h 
   pub open-done : {index₁ keys₁ used₁ : List ℕ} → Bytes index → index₁ ≡ openedWith index (leaf .page .0) (leaf .at) (refsFor (widthOf index) key n) → keys₁ ≡ set keys r key → used₁ ≡ set used r 1
       → OnDone index keys used key r index₁ keys₁ used₁
   open-done small i k u = on-entered new (subst (OnPages index key news) (sym i) (opened-pages small)) k u
-
--- ---- the code's steps
-
--- The room, as it is tested.
-pub room-tested : (index : List ℕ) (p n : ℕ) {e m a b : ℕ} → e ≡ entriesOf index → m ≡ countOf (pageBytes (layoutOf e) index p) → a ≡ m → b ≡ e → leb (a + n) (b + 1) ≡ roomFor index p n
-room-tested index p n {e} {m} {a} {b} i c f g =
-    let count : a ≡ length (pagesAt (layoutOf (entriesOf index)) index p) = f ∙ c ∙ ap (λ (k : ℕ). countOf (pageBytes (layoutOf k) index p)) i ∙ sym (length-refs (layoutOf (entriesOf index)) (pageBytes (layoutOf (entriesOf index)) index p)) in
-    let entries : b + 1 ≡ suc (entriesOf index) = omega (arith, i, g) in
-    rw (count, entries) refl
-
--- Room is made, the entries are written there, and one record more is held.
-module _ {index : List ℕ} {p at key : ℕ} {n : News} (pre : OpenPre index p at key n) {h : Index} (i : IndexOf index h) {b : List ℕ} {place : ℕ} (o : Opened (h .entries) index p at (n .count) b place) {w : ℕ} (width : w ≡ h .width) where
-  pub write-pre : Newly w key n × (place + 3 * n .count ≤ length b)
-  write-pre = (rw (width, i .width) (pre .newly), omega (arith, o .long, o .inside))
-
-  pub opened-written : {b₁ index₁ : List ℕ} → b₁ ≡ over b place (rowBytes 2 (refsFor w key n)) → index₁ ≡ withHeld b₁ (h .held + 1) → index₁ ≡ openedWith index p at (refsFor (widthOf index) key n)
-  opened-written {b₁} {index₁} f g =
-      let is : w ≡ widthOf index = width ∙ i .width in
-      let filled = f ∙ o .filled (refsFor w key n) (rw is (news-long (pre .newly))) in
-      rw (← is, ← i .entries, ← i .held, ← add-one (h .held), ← filled) g

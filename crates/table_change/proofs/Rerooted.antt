@@ -1,13 +1,12 @@
 -- A table whose pages were changed, with another root and another number of records held in its header. Assumes nothing.
-use mathlib.Core.Path.{_≡_, sym, ap, ap₂, _∙_}
+use mathlib.Core.Path.{_≡_, sym, ap, _∙_}
 use mathlib.Core.List.{List}
 use Prim.Native.Nat.{ℕ, suc, _≤_, _<_}
 use native.Mathlib.Omega.{arith}
 use lib.ListN.{length, take}
-use Rattle.page_tree.specs.Numbered.{NumberedTree}
-use Rattle.index_table.specs.Layout.{Layout, layoutOf, pageBytes, levelOf, refsOf, nilPointer}
-use Rattle.index_table.specs.Header.{widthOf, entriesOf, pagesOf, rootOf, heldOf, withRoot, withHeld, HeaderFrom}
-use Rattle.index_table.specs.Bytes.{bytesOf, over}
+use Rattle.index_table.specs.Layout.{Layout, layoutOf, pageBytes, levelOf, refsOf}
+use Rattle.index_table.specs.Header.{entriesOf, pagesOf, rootOf, withRoot, withHeld, HeaderFrom}
+use Rattle.index_table.specs.Bytes.{bytesOf}
 use Rattle.index_table.specs.Pages.{pagesAt, inUse, rootRef, numberedTreeAt}
 use Rattle.index_table.specs.Soundness.{SoundPages, rootLevel, numberedTreeOf}
 use Rattle.index_table.proofs.Frames.{Unchanged, unchanged}

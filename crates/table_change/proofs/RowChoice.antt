@@ -1,10 +1,10 @@
 -- Which row declines an on or an off, and what follows. Assumes nothing.
-use mathlib.Core.Path.{_≡_, refl, sym, ap, ap₂, _∙_}
+use mathlib.Core.Path.{_≡_, refl, sym, ap, _∙_}
 use mathlib.Core.Logic.{_≢_}
 use mathlib.Core.Bool.{Bool, true, false, cond}
 use mathlib.Core.Option.{Option, none, some}
 use mathlib.Core.List.{List, [], _∷_}
-use Prim.Native.Nat.{ℕ, suc, _^_, _≤_, _<_}
+use Prim.Native.Nat.{ℕ, _^_, _≤_, _<_}
 use native.Mathlib.Omega.{arith}
 use lib.Dec.{leb, ltb}
 use lib.ListN.{length}
@@ -14,15 +14,16 @@ use Rattle.leaf_list.specs.Register.{inUse, herdOf}
 use Rattle.leaf_list.proofs.Laws.{neighbours-law}
 use Rattle.page_tree.specs.Tree.{Tree, pagesOf as treePages}
 use Rattle.page_tree.specs.declared.Row.{Row}
-use Rattle.index_table.specs.Header.{widthOf, entriesOf, pagesOf, rootOf, heldOf, withRoot, withHeld}
+use Rattle.index_table.specs.Header.{widthOf, pagesOf}
 use Rattle.index_table.specs.Soundness.{Sound}
 use Rattle.index_table.proofs.SoundTables.{herd-narrow, herd-sorted, herd-held, in-use-inside}
 use Rattle.table_search.specs.declared.Leaf.{Leaf}
 use Rattle.table_calls.specs.declared.answer.Answer.{Answer}
-use Rattle.table_calls.specs.Answers.{plain, withRecord, found}
-use Rattle.table_change.specs.Changes.{tooWide, isSome, isHeld, onRow, onRowOf, rowEight, rowSeven, OnDone, OnChanges, offRow, offRowOf, OffDone, OffChanges}
-use Rattle.table_change.specs.News.{NewsFor, FreeRecord, NewKey}
-use Rattle.table_change.specs.Repaging.{Changeable, HeldKey, OffPagesPre, treeWith, lateRowWith, OnPagesPre, Roomy}
+use Rattle.table_calls.specs.Answers.{plain, found}
+use Rattle.table_change.specs.Changes.{tooWide, isSome, isHeld, onRow, onRowOf, rowEight, rowSeven, OnDone, OnChanges, offRowOf, OffDone, OffChanges}
+use Rattle.table_change.specs.News.{NewsFor, FreeRecord}
+use Rattle.index_change.specs.Repaging.{Changeable, OffPagesPre, treeWith, lateRowWith, OnPagesPre, Roomy}
+use Rattle.table_change.specs.FoundKeys.{HeldKey}
 use Rattle.table_change.proofs.Changed.{held-high, tree-table, tree-after}
 use Rattle.table_change.proofs.SoundAfter.{found-record}
 

@@ -9,25 +9,20 @@ use lib.ListN.{length}
 use Rattle.leaf_list.specs.Keys.{bits}
 use Rattle.leaf_list.specs.Entries.{depthOf}
 use Rattle.leaf_list.specs.Herd.{lookup}
-use Rattle.leaf_list.specs.Search.{positions}
 use Rattle.leaf_list.specs.Register.{keyAt, inUse, herdOf}
 use Rattle.page_tree.specs.Row.{rowOf}
 use Rattle.page_tree.specs.Rows.{Closed}
-use Rattle.page_tree.specs.Finding.{Found, findIn}
 use Rattle.page_tree.specs.OnPages.{newEntries}
 use Rattle.page_tree.specs.declared.Row.{Row}
 use Rattle.index_table.specs.Layout.{Ref, Fitting}
 use Rattle.index_table.specs.Header.{widthOf}
-use Rattle.index_table.specs.Soundness.{Sound, treeOf}
-use Rattle.table_change.specs.Entries.{entriesIn}
+use Rattle.index_table.specs.Soundness.{Sound}
+use Rattle.new_entries.specs.Entries.{entriesIn}
+use Rattle.index_change.specs.Repaging.{foundFor}
 
 -- The key of the record that a pointer of level 0 means is key.
 abbrev pub keyIs : List ℕ → ℕ → ℕ → Bool
 keyIs keys pointer key = cond (eqb pointer 65535) false (eqb (keyAt keys pointer) key)
-
--- The entry that figure 6 finds for a key.
-abbrev pub foundFor : List ℕ → ℕ → Found
-foundFor index key = findIn (positions 0 (bits (widthOf index) key)) (treeOf index)
 
 -- The rows' entries stand for the entry found once the key is put in with the record r.
 pub record NewsFor (index keys : List ℕ) (key r : ℕ) (news : Row) : Type 0 where

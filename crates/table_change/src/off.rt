@@ -1,8 +1,7 @@
 // Off in sound tables.
-ghost use mathlib.Core.Path.{_≡_};
 ghost use Rattle.index_table.specs.Soundness.{Sound};
 ghost use Rattle.table_change.specs.Changes.{OffDone, OffChanges};
-ghost use Rattle.table_change.specs.Repaging.{HeldKey};
+ghost use Rattle.table_change.specs.FoundKeys.{HeldKey};
 use table_calls::answer::Answer;
 use table_search::Leaf;
 
@@ -11,7 +10,7 @@ fn take_off(index: &mut [u8], keys: &mut [u64], used: &mut [u8], key: u64, leaf:
     requires { ⌜ HeldKey (now index) (now keys) (now used) key leaf ⌝ }
     ensures { λ r. ⌜ OffDone (now (index .entry)) (now (keys .entry)) (now (used .entry)) key (now (index .exit)) (now (keys .exit)) (now (used .exit)) ⌝ }
 {
-    crate::pages::strike_pages(index, key, leaf);
+    index_change::strike_pages(index, key, leaf);
     let at = leaf.pointer as usize;
     keys[at] = 0;
     used[at] = 0;

@@ -5,8 +5,9 @@ ghost use lib.ListN.{length, set};
 ghost use Rattle.index_table.specs.Soundness.{Sound};
 ghost use Rattle.table_change.specs.Changes.{OnDone, OnChanges};
 ghost use Rattle.table_change.specs.News.{NewKey, FreeRecord};
-ghost use Rattle.table_change.specs.Repaging.{Roomy, FoundKey, FittingKey};
-use crate::entries::News;
+ghost use Rattle.index_change.specs.Repaging.{Roomy};
+ghost use Rattle.table_change.specs.FoundKeys.{FoundKey, FittingKey};
+use new_entries::entries::News;
 use page_tree::Row;
 use table_calls::answer::Answer;
 use table_search::Leaf;
@@ -34,7 +35,7 @@ fn open_on(
     requires { ⌜ FittingKey (now index) (now keys) (now used) key «record» leaf news ⌝ }
     ensures { λ r. ⌜ OnDone (now (index .entry)) (now (keys .entry)) (now (used .entry)) key «record» (now (index .exit)) (now (keys .exit)) (now (used .exit)) ⌝ }
 {
-    crate::pages::open_leaf(index, leaf.page, leaf.at, key, news);
+    index_change::open_leaf(index, leaf.page, leaf.at, key, news);
     enter(keys, used, key, record);
 }
 
@@ -43,7 +44,7 @@ fn put_on(index: &mut [u8], keys: &mut [u64], used: &mut [u8], key: u64, record:
     requires { ⌜ NewKey (now index) (now keys) (now used) key «record» news × Roomy (now index) key news ⌝ }
     ensures { λ r. ⌜ OnDone (now (index .entry)) (now (keys .entry)) (now (used .entry)) key «record» (now (index .exit)) (now (keys .exit)) (now (used .exit)) ⌝ }
 {
-    crate::pages::splice_pages(index, key, news);
+    index_change::splice_pages(index, key, news);
     enter(keys, used, key, record);
 }
 
@@ -59,7 +60,7 @@ fn cut_on(
     requires { ⌜ NewKey (now index) (now keys) (now used) key «record» news ⌝ }
     ensures { λ r. ⌜ OnChanges (now (index .entry)) (now (keys .entry)) (now (used .entry)) key «record» (now (index .exit)) (now (keys .exit)) (now (used .exit)) r ⌝ }
 {
-    let late = crate::pages::late_row(index, key, news);
+    let late = index_change::late_row(index, key, news);
     if late != 0 {
         return Answer::plain(late);
     }
@@ -80,12 +81,12 @@ fn place_on(
     requires { ⌜ FoundKey (now index) (now keys) (now used) key «record» leaf news ⌝ }
     ensures { λ r. ⌜ OnChanges (now (index .entry)) (now (keys .entry)) (now (used .entry)) key «record» (now (index .exit)) (now (keys .exit)) (now (used .exit)) r ⌝ }
 {
-    if crate::pages::has_room(index, leaf.page, news.count) {
+    if index_change::has_room(index, leaf.page, news.count) {
         open_on(index, keys, used, key, record, leaf, news);
         return Answer::plain(0);
     }
     let w = index_table::header::width(index);
-    let row = crate::news::row_of(w, key, news);
+    let row = new_entries::news::row_of(w, key, news);
     cut_on(index, keys, used, key, record, row)
 }
 
@@ -99,7 +100,7 @@ fn on_free(index: &mut [u8], keys: &mut [u64], used: &mut [u8], key: u64, record
         return Answer::plain(5);
     }
     let w = index_table::header::width(index);
-    let news = crate::entries::new_entries(keys, w, key, record, leaf);
+    let news = new_entries::entries::new_entries(keys, w, key, record, leaf);
     place_on(index, keys, used, key, record, leaf, news)
 }
 

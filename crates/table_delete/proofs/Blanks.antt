@@ -1,26 +1,20 @@
 -- From a page down to the entry that may become a dummy, with the depth that follows it. Assumes nothing.
 use mathlib.Core.Path.{_≡_, sym, ap, _∙_}
 use mathlib.Core.Bool.{Bool}
-use mathlib.Core.List.{List, map}
-use Prim.Native.Nat.{ℕ, zero, suc, _+_, _-_, _≤_, _<_}
+use mathlib.Core.List.{List}
+use Prim.Native.Nat.{ℕ, zero, suc, _+_, _-_, _<_}
 use native.Mathlib.Omega.{arith}
 use native.Mathlib.Numerals.{add-one}
-use lib.ListN.{length, getD, drop, drop-of-length-le}
-use lib.Seq.{drop-cons}
-use Rattle.leaf_list.proofs.Lists.{all-at}
-use Rattle.page_tree.specs.Rows.{flats}
-use Rattle.page_tree.specs.Tree.{leaves}
-use Rattle.index_table.specs.Layout.{layoutOf, Ref, Within, pageBytes, countOf, refAt}
-use Rattle.index_table.specs.Pages.{pagesAt, nodeAt}
+use lib.ListN.{getD, drop}
+use Rattle.index_table.specs.Layout.{layoutOf, Ref, Within, pageBytes, refAt}
+use Rattle.index_table.specs.Pages.{pagesAt}
 use Rattle.index_table.proofs.NumberLaws.{Bytes}
-use Rattle.index_table.proofs.PageBytes.{within-table}
-use Rattle.index_table.proofs.PageRows.{length-refs, refs-fit}
+use Rattle.index_table.proofs.PageRows.{refs-fit}
 use Rattle.index_table.proofs.WholePages.{cleared-whole}
 use Rattle.table_search.specs.declared.Spot.{Spot}
 use Rattle.table_search.specs.Places.{SeekPre, Stopped}
 use Rattle.table_search.proofs.Stops.{read-entry}
 use Rattle.table_search.proofs.Descents.{descend-within, descend-inside}
-use Rattle.tree_delete.specs.Keeping.{Linked}
 use Rattle.tree_delete.specs.Removing.{followingAt, AfterPre}
 use Rattle.page_delete.specs.OnePage.{GivePre, DummyPost}
 use Rattle.table_delete.specs.Blanking.{BlankPre, BlankPost}

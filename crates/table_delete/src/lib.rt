@@ -1,5 +1,4 @@
 // Deletion in the pages of a sound tree: within a page where that is enough, else across pages; and the root rule.
-ghost use mathlib.Core.Path.{_≡_};
 ghost use Rattle.table_delete.specs.Taking.{LowerPre, LowerPost, TakePre, TakeAtPre, TakePost};
 
 pub mod blank;

@@ -1,5 +1,4 @@
 // One entry of level 0: figure 11 at the entry found, and on the way back to the left.
-ghost use mathlib.Core.Path.{_≡_};
 ghost use mathlib.Core.Option.{none};
 ghost use Prim.Native.Nat.{_<_};
 ghost use Rattle.leaf_list.specs.Entries.{entry};

@@ -1,5 +1,4 @@
 // The way back to the left, into the pages below each entry, until nothing is asked.
-ghost use mathlib.Core.Path.{_≡_};
 ghost use Rattle.tree_delete.specs.Unwinding.{BackPre, BackPost, SweepPre, SweepPost};
 use crate::entries::Remnant;
 use crate::entries::idle;

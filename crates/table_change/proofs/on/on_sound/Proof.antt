@@ -1,6 +1,5 @@
 -- Rows 2 to 4, then the others. Assumes nothing.
 use borrow.Author.Needs.{needs}
-use native.Mathlib.Omega.{arith}
 use Rattle.index_table.proofs.SoundTables.{header-long}
 use Rattle.table_change.proofs.RowChoice.{on-refused, early-row-is, free-passed}
 use Rattle.table_change.proofs.on.on_sound.Statement.{statement}

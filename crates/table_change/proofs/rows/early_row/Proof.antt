@@ -1,14 +1,9 @@
 -- Rows 2, 3 and 4, in this order. Assumes nothing.
-use mathlib.Core.Path.{_≡_, refl, sym, ap, _∙_}
-use mathlib.Core.Bool.{Bool, true, false}
-use mathlib.Core.List.{List}
-use Prim.Native.Nat.{ℕ, _≤_, _<_, _^_}
+use mathlib.Core.Path.{refl}
 use borrow.Author.Needs.{needs}
 use borrow.Author.Tests.{le-leb, lt-leb, eq-eqb, ne-eqb}
 use native.Mathlib.Omega.{arith}
-use lib.Dec.{leb}
 use lib.ListN.{length, getD}
-use Rattle.table_change.specs.Changes.{tooWide, onRow}
 use Rattle.table_change.proofs.RowChoice.{wide-is}
 use Rattle.table_change.proofs.rows.early_row.Statement.{statement}
 use Rattle.table_change.proofs.rows.early_row.Tie as tie

@@ -1,0 +1,2 @@
+pub mod Repaged
+pub mod PageOpening
