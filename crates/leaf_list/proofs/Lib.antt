@@ -28,7 +28,6 @@ pub mod Twin
 pub mod Chain
 pub mod Literal
 pub mod Laws
-pub mod SmallHerds
 pub mod Fitting
 pub mod Leaves
 pub mod FittingHerds

@@ -23,7 +23,6 @@ pub mod LastAlone
 pub mod FlatInsertion
 pub mod FlatDeletion
 pub mod HerdPages
-pub mod SmallPages
 pub mod RowLaws
 pub mod Choice
 pub mod PartEnds

@@ -7,11 +7,11 @@ use lib.ListN.{getD}
 use Rattle.leaf_list.specs.Entries.{entry}
 use Rattle.leaf_list.specs.Herd.{add}
 use Rattle.leaf_list.specs.LeafList.{leafList}
-use Rattle.leaf_list.proofs.SmallHerds.{SmallHerds, small-herds, herd4}
+use Rattle.small_herds.proofs.SmallHerds.{SmallHerds, small-herds, herd4}
 use Rattle.page_tree.specs.Tree.{depth, Tree, leavesOf, pagesOf}
 use Rattle.page_tree.specs.Cutting.{split, cut}
 use Rattle.page_tree.specs.OnPages.{onTree}
 use Rattle.page_tree.specs.OffPages.{offTree}
 
 -- A record's key comes in, or goes.
 pub data Change : Type 0 where

@@ -1,0 +1,2 @@
+pub mod SmallHerds
+pub mod SmallPages
