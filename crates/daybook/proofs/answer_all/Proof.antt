@@ -2,7 +2,7 @@
 use borrow.Author.Needs.{needs}
 use mathlib.Core.Path.{_≡_, refl}
 use lib.ListN.{length}
-use Rattle.daybook.specs.Readings.{Between}
+use Rattle.book_output.specs.Readings.{Between}
 use Rattle.daybook.proofs.answer_all.Statement.{statement}
 use Rattle.daybook.proofs.answer_all.Tie as tie
 

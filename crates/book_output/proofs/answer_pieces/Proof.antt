@@ -5,9 +5,9 @@ use Prim.Native.Nat.{_-_}
 use lib.ListN.{length}
 use lib.Seq.{length-take-le}
 use Rattle.day_book.specs.LineAnswers.{tables}
-use Rattle.daybook.proofs.Pieces.{Through, through-none, through-piece, piece-onward, pieces-fail, pieces-end}
-use Rattle.daybook.proofs.answer_pieces.Statement.{statement}
-use Rattle.daybook.proofs.answer_pieces.Tie as tie
+use Rattle.book_output.proofs.Pieces.{Through, through-none, through-piece, piece-onward, pieces-fail, pieces-end}
+use Rattle.book_output.proofs.answer_pieces.Statement.{statement}
+use Rattle.book_output.proofs.answer_pieces.Tie as tie
 
 abbrev Inv-loop : tie.InvT-loop
 Inv-loop index₀ keys₀ used₀ chunk held₀ out₀ p₀ index keys used held out p =

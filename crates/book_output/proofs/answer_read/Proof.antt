@@ -1,8 +1,8 @@
 -- By whether the read gave something. Assumes nothing.
 use borrow.Author.Needs.{needs}
-use Rattle.daybook.proofs.Pieces.{read-ends, read-chunk}
-use Rattle.daybook.proofs.answer_read.Statement.{statement}
-use Rattle.daybook.proofs.answer_read.Tie as tie
+use Rattle.book_output.proofs.Pieces.{read-ends, read-chunk}
+use Rattle.book_output.proofs.answer_read.Statement.{statement}
+use Rattle.book_output.proofs.answer_read.Tie as tie
 
 answer-end-requires : tie.Need-answer-end-requires
 answer-end-requires c κs = search needs

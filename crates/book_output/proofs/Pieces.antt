@@ -14,8 +14,8 @@ use Rattle.day_book.proofs.ToldLines.{told-both}
 use Rattle.book_chunks.specs.declared.Progress.{Progress}
 use Rattle.book_chunks.specs.Chunks.{begun, unread, Ready, ChunkDoes}
 use Rattle.book_chunks.proofs.EveryInput.{written}
-use Rattle.daybook.specs.declared.Reading.{Reading}
-use Rattle.daybook.specs.Readings.{PiecesReady, begunLine, PiecesDo, EndDoes, ReadDoes}
+use Rattle.book_output.specs.declared.Reading.{Reading}
+use Rattle.book_output.specs.Readings.{PiecesReady, begunLine, PiecesDo, EndDoes, ReadDoes}
 
 -- The progress at the front of a chunk, and the reading behind it.
 abbrev pub atFront : Reading → Progress

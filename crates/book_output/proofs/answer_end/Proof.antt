@@ -2,8 +2,8 @@
 use borrow.Author.Needs.{needs}
 use mathlib.Core.Path.{sym}
 use lib.Seq.{length-take-le}
-use Rattle.daybook.proofs.answer_end.Statement.{statement}
-use Rattle.daybook.proofs.answer_end.Tie as tie
+use Rattle.book_output.proofs.answer_end.Statement.{statement}
+use Rattle.book_output.proofs.answer_end.Tie as tie
 
 answer-last-requires : tie.Need-answer-last-requires
 answer-last-requires c κs = search needs

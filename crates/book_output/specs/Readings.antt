@@ -8,7 +8,7 @@ use Rattle.tag_index.specs.Histories.{Tables, Feed}
 use Rattle.book_input.specs.Lines.{begunBefore, linesMet, leftOpen}
 use Rattle.day_book.specs.LineAnswers.{Told}
 use Rattle.book_chunks.specs.Chunks.{lastNumber}
-use Rattle.daybook.specs.declared.Reading.{Reading}
+use Rattle.book_output.specs.declared.Reading.{Reading}
 
 -- 81 bytes are lent for a line, and at most these are held; the buffer has room for one answer at least.
 pub record Between (held out : List ℕ) (a : Reading) : Type 0 where
