@@ -12,7 +12,7 @@ use Rattle.leaf_list.proofs.Check.{run-live}
 use Rattle.index_table.specs.Layout.{Ref}
 use Rattle.index_table.specs.declared.header.Index.{Index}
 use Rattle.bytes_check.specs.Scans.{rowsOf}
-use Rattle.leaf_check.specs.Leaves.{countless, stateOf, Carried, Scanned, leavesOfRow, RowSound}
+use Rattle.leaf_check.specs.Leaves.{countless, stateOf, Carried, Passing, Scanned, leavesOfRow, RowSound}
 use Rattle.leaf_check.specs.declared.entries.Scan.{Scan}
 use Rattle.leaf_check.specs.declared.entries.Checked.{Checked}
 use Rattle.leaf_check.proofs.EntryTests.{scanned-no}

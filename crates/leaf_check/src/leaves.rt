@@ -73,37 +73,3 @@ pub fn scan_leaves(
     let p = index_table::layout::pointer(index, h.entries, page, i);
     crate::entries::scan_entry(w, keys, used, held, scan, wide(d), p)
 }
-
-// The same, entry by entry: for a page that is the whole tree. A page below others is scanned in passes, within the loop over its parent.
-pub fn scan_single(
-    index: &[u8],
-    keys: &[u64],
-    used: &[u8],
-    h: Index,
-    page: PageNo,
-    c: u8,
-    s: Scan,
-) -> Checked
-    requires { ⌜ LeavesPre h (now index) (now keys) (now used) (page .0) s ⌝ }
-    ensures { λ r. ⌜ Scanned (RowSound h (now (index .entry)) c 0 (rowsOf h (now (index .entry)) (page .0)) []) (h .width) (now (keys .entry)) (now (used .entry)) (h .held) s (leavesOfRow 0 (rowsOf h (now (index .entry))) (rowsOf h (now (index .entry)) (page .0))) r ⌝ }
-{
-    let w = wide(h.width);
-    let held = wide16(h.held);
-    let n = index_table::layout::wide(index_table::layout::count(index, h.entries, page));
-    let mut scan = s;
-    let mut i: usize = 0;
-    while i < n {
-        let d = index_table::layout::depth(index, h.entries, page, i);
-        if !closes(c, d, i + 1 == n) {
-            return Checked { ok: false, scan };
-        }
-        let p = index_table::layout::pointer(index, h.entries, page, i);
-        let next = crate::entries::scan_entry(w, keys, used, held, scan, wide(d), p);
-        if !next.ok {
-            return next;
-        }
-        scan = next.scan;
-        i += 1;
-    }
-    Checked { ok: true, scan }
-}

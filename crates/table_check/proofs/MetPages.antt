@@ -19,7 +19,7 @@ use Rattle.index_table.proofs.PageRows.{length-refs}
 use Rattle.index_table.proofs.PageCounts.{same-self, same-cases}
 use Rattle.bytes_check.specs.Scans.{rowsOf}
 use Rattle.leaf_check.specs.Leaves.{Carried, Scanned, leavesOfRow, Ends, RowSound, EntrySound, LeavesPre}
-use Rattle.table_check.specs.Walks.{WalkPre, RowPre, Entered, Walked, RowWalked}
+use Rattle.table_check.specs.Walks.{WalkPre, Entered, Walked}
 use Rattle.leaf_check.specs.declared.entries.Scan.{Scan}
 use Rattle.leaf_check.specs.declared.entries.Checked.{Checked}
 use Rattle.bytes_check.proofs.Iff.{iff-no, iff-yes, said-no}
@@ -176,10 +176,6 @@ module _ {h : Index} {index keys used : List ℕ} {n page : ℕ} {map map₁ : L
   walk-on map′ s′ l k b =
       record { table = m .pre .table; width = m .pre .width; register = m .pre .register; carried = b; long = omega (arith, m .pre .long, met-long); marked = k }
 
-  -- What the check of its row takes.
-  pub row-pre : RowPre h index keys used page map₁ s
-  row-pre = record { walk = walk-on map₁ s refl met-marked (m .pre .carried); within = leaves-pre .within; few = leaves-pre .few }
-
   -- By the answer on its row.
   module _ {c : ℕ} where
     -- The answer on its row is the answer on the page.
@@ -210,12 +206,6 @@ module _ {h : Index} {index keys used : List ℕ} {n page : ℕ} {map map₁ : L
         → Walked h index keys used (suc n) (c, page) map map′ s r
     walked-row-no o a = walked-row a (λ t. absurd (true≢false (sym t ∙ o)))
 
-    -- The row of a page of rank k was walked.
-    pub walked-row-at : {map′ : List ℕ} {r : Checked} {k : ℕ} → n ≡ k → RowWalked h index keys used k page c map₁ map′ s r → Walked h index keys used (suc n) (c, page) map map′ s r
-    walked-row-at {map′} {r} y a =
-        let b : RowWalked h index keys used n page c map₁ map′ s r = subst (λ (k : ℕ). RowWalked h index keys used k page c map₁ map′ s r) (sym y) a in
-        walked-row (b .scanned) (b .marks)
-
     -- On level 0.
     pub walked-leaves : {r : Checked} → n ≡ 0
         → Scanned (RowSound h index c 0 (rowsOf h index page) []) (h .width) keys used (h .held) s (leavesOfRow 0 (rowsOf h index) (rowsOf h index page)) r
@@ -234,14 +224,3 @@ walked-at {h} {index} {keys} {used} {n} {map} {map′} {s} {r} x e f w = subst (
 pub walked-lower : {h : Index} {index keys used : List ℕ} {map map′ : List ℕ} {s : Scan} {r : Checked} {x : Ref} (n : ℕ) → 0 < n
     → Walked h index keys used (suc (n - 1)) x map map′ s r → Walked h index keys used n x map map′ s r
 walked-lower n l w = let e : suc (n - 1) ≡ n = omega arith in rw e at w
-
--- What the check of a page takes, with another map and behind another scan.
-pub walk-again : {h : Index} {index keys used : List ℕ} {map : List ℕ} {s : Scan} → WalkPre h index keys used map s → (map′ : List ℕ) (s′ : Scan) → length map′ ≡ length map → ((q : ℕ) → getD map′ q 0 ≤ 1)
-    → Carried (h .width) (h .held) s′ → WalkPre h index keys used map′ s′
-walk-again w map′ s′ l k b = record { table = w .table; width = w .width; register = w .register; carried = b; long = omega (arith, w .long); marked = k }
-
--- A row that is refused, whatever the marks.
-pub row-no : {h : Index} {index keys used : List ℕ} {n page c : ℕ} {map map′ : List ℕ} {s : Scan} {r : Checked} → r .ok ≡ false
-    → Scanned (RowSound h index c n (rowsOf h index page) map) (h .width) keys used (h .held) s (leavesOfRow n (rowsOf h index) (rowsOf h index page)) r
-    → RowWalked h index keys used n page c map map′ s r
-row-no o a = record { scanned = a; marks = λ t. absurd (true≢false (sym t ∙ o)) }

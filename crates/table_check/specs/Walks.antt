@@ -5,12 +5,12 @@ use mathlib.Core.Logic.{_↔_}
 use mathlib.Core.List.{List}
 use Prim.Native.Nat.{ℕ, _+_, _≤_}
 use lib.ListN.{length, getD, set}
-use Rattle.index_table.specs.Layout.{Ref, layoutOf, pageStart, Within}
-use Rattle.index_table.specs.Pages.{met, metAll}
+use Rattle.index_table.specs.Layout.{Ref, layoutOf, pageStart}
+use Rattle.index_table.specs.Pages.{met}
 use Rattle.index_table.specs.Soundness.{SizedPage}
 use Rattle.index_table.specs.declared.header.Index.{Index}
 use Rattle.bytes_check.specs.Scans.{rowsOf}
-use Rattle.leaf_check.specs.Leaves.{NarrowRegister, Carried, Scanned, leavesBelow, leavesOfRow, RowSound, EntrySound}
+use Rattle.leaf_check.specs.Leaves.{NarrowRegister, Carried, Scanned, leavesBelow, EntrySound}
 use Rattle.leaf_check.specs.declared.entries.Scan.{Scan}
 use Rattle.leaf_check.specs.declared.entries.Checked.{Checked}
 
@@ -23,12 +23,6 @@ pub record WalkPre (h : Index) (index keys used : List ℕ) (map : List ℕ) (s 
   pub long : h .pages ≤ length map
   pub marked : (q : ℕ) → getD map q 0 ≤ 1
 
--- What the check of the row of a page that was met takes.
-pub record RowPre (h : Index) (index keys used : List ℕ) (page : ℕ) (map : List ℕ) (s : Scan) : Type 0 where
-  pub walk : WalkPre h index keys used map s
-  pub within : Within (layoutOf (h .entries)) index page
-  pub few : length (rowsOf h index page) ≤ h .entries
-
 -- A page is met: it is of its level, of 1 to E entries, and not marked yet; then it is marked.
 pub record Entered (h : Index) (index : List ℕ) (level page : ℕ) (map map′ : List ℕ) (r : Bool) : Type 0 where
   pub verdict : (r ≡ true) ↔ (SizedPage (layoutOf (h .entries)) (h .pages) level index page × (getD map page 0 ≡ 0))
@@ -38,8 +32,3 @@ pub record Entered (h : Index) (index : List ℕ) (level page : ℕ) (map map′
 pub record Walked (h : Index) (index keys used : List ℕ) (n : ℕ) (x : Ref) (map map′ : List ℕ) (s : Scan) (r : Checked) : Type 0 where
   pub scanned : Scanned (EntrySound h index n x map) (h .width) keys used (h .held) s (leavesBelow n (rowsOf h index) x) r
   pub marks : r .ok ≡ true → (q : ℕ) → getD map′ q 0 ≡ getD map q 0 + met n (rowsOf h index) x q
-
--- The same of the row of a page that was met, whose entries are of rank n.
-pub record RowWalked (h : Index) (index keys used : List ℕ) (n page c : ℕ) (map map′ : List ℕ) (s : Scan) (r : Checked) : Type 0 where
-  pub scanned : Scanned (RowSound h index c n (rowsOf h index page) map) (h .width) keys used (h .held) s (leavesOfRow n (rowsOf h index) (rowsOf h index page)) r
-  pub marks : r .ok ≡ true → (q : ℕ) → getD map′ q 0 ≡ getD map q 0 + metAll n (rowsOf h index) (rowsOf h index page) q

@@ -6,7 +6,7 @@ ghost use Prim.Native.Nat.{suc, _<_, _≤_};
 ghost use lib.ListN.{length};
 ghost use Rattle.index_table.specs.Layout.{layoutOf, pageStart};
 ghost use Rattle.index_table.specs.Soundness.{SizedPage};
-ghost use Rattle.table_check.specs.Walks.{WalkPre, RowPre, Entered, Walked, RowWalked};
+ghost use Rattle.table_check.specs.Walks.{WalkPre, Entered, Walked};
 use index_table::header::Index;
 use index_table::layout::PageNo;
 use leaf_check::entries::Checked;
@@ -46,61 +46,8 @@ fn enter(index: &[u8], map: &mut [u8], h: Index, level: u8, page: PageNo) -> boo
     true
 }
 
-// A page of level 0 that c closes, behind what is carried.
-fn leaf_ok(
-    index: &[u8],
-    keys: &[u64],
-    used: &[u8],
-    map: &mut [u8],
-    h: Index,
-    page: PageNo,
-    c: u8,
-    s: Scan,
-) -> Checked
-    requires { ⌜ WalkPre h (now index) (now keys) (now used) (now map) s ⌝ }
-    ensures { λ r. ⌜ Walked h (now (index .entry)) (now (keys .entry)) (now (used .entry)) 1 (c, page .0) (now (map .entry)) (now (map .exit)) s r ⌝ }
-{
-    if !enter(index, map, h, 0, page) {
-        return Checked { ok: false, scan: s };
-    }
-    leaf_check::leaves::scan_leaves(index, keys, used, h, page, c, s)
-}
-
-// The pages of level 0 below a page of level 1 that was met, and that c closes.
-fn leaves_ok(
-    index: &[u8],
-    keys: &[u64],
-    used: &[u8],
-    map: &mut [u8],
-    h: Index,
-    page: PageNo,
-    c: u8,
-    s: Scan,
-) -> Checked
-    requires { ⌜ RowPre h (now index) (now keys) (now used) (page .0) (now map) s ⌝ }
-    ensures { λ r. ⌜ RowWalked h (now (index .entry)) (now (keys .entry)) (now (used .entry)) 1 (page .0) c (now (map .entry)) (now (map .exit)) s r ⌝ }
-{
-    let n = index_table::layout::wide(index_table::layout::count(index, h.entries, page));
-    let mut scan = s;
-    let mut i: usize = 0;
-    while i < n {
-        let d = index_table::layout::depth(index, h.entries, page, i);
-        if !leaf_check::leaves::closes(c, d, i + 1 == n) {
-            return Checked { ok: false, scan };
-        }
-        let child = index_table::layout::child(index, h.entries, page, i);
-        let next = leaf_ok(index, keys, used, map, h, child, d, scan);
-        if !next.ok {
-            return next;
-        }
-        scan = next.scan;
-        i += 1;
-    }
-    Checked { ok: true, scan }
-}
-
-// A page above level 0 that c closes, and all below it, behind what is carried: a page is sound if its children are.
-fn page_ok(
+// A page that c closes, and all below it, behind what is carried: a page is sound if its children are.
+pub fn page_ok(
     index: &[u8],
     keys: &[u64],
     used: &[u8],
@@ -111,14 +58,14 @@ fn page_ok(
     c: u8,
     s: Scan,
 ) -> Checked
-    requires { ⌜ WalkPre h (now index) (now keys) (now used) (now map) s × (0 < level) ⌝ }
+    requires { ⌜ WalkPre h (now index) (now keys) (now used) (now map) s ⌝ }
     ensures { λ r. ⌜ Walked h (now (index .entry)) (now (keys .entry)) (now (used .entry)) (suc level) (c, page .0) (now (map .entry)) (now (map .exit)) s r ⌝ }
 {
     if !enter(index, map, h, level, page) {
         return Checked { ok: false, scan: s };
     }
-    if level == 1 {
-        return leaves_ok(index, keys, used, map, h, page, c, s);
+    if level == 0 {
+        return leaf_check::leaves::scan_leaves(index, keys, used, h, page, c, s);
     }
     let n = index_table::layout::wide(index_table::layout::count(index, h.entries, page));
     let mut scan = s;
@@ -139,7 +86,7 @@ fn page_ok(
     Checked { ok: true, scan }
 }
 
-// A child above level 0 is in order if it is a sound page one level lower.
+// A child is in order if it is a sound page one level lower.
 fn child_ok(
     index: &[u8],
     keys: &[u64],
@@ -151,47 +98,8 @@ fn child_ok(
     c: u8,
     s: Scan,
 ) -> Checked
-    requires { ⌜ WalkPre h (now index) (now keys) (now used) (now map) s × (1 < level) ⌝ }
+    requires { ⌜ WalkPre h (now index) (now keys) (now used) (now map) s × (0 < level) ⌝ }
     ensures { λ r. ⌜ Walked h (now (index .entry)) (now (keys .entry)) (now (used .entry)) level (c, page .0) (now (map .entry)) (now (map .exit)) s r ⌝ }
 {
     page_ok(index, keys, used, map, h, level - 1, page, c, s)
-}
-
-// A root of level 0, the whole tree.
-fn single_ok(
-    index: &[u8],
-    keys: &[u64],
-    used: &[u8],
-    map: &mut [u8],
-    h: Index,
-    page: PageNo,
-    s: Scan,
-) -> Checked
-    requires { ⌜ WalkPre h (now index) (now keys) (now used) (now map) s ⌝ }
-    ensures { λ r. ⌜ Walked h (now (index .entry)) (now (keys .entry)) (now (used .entry)) 1 (0, page .0) (now (map .entry)) (now (map .exit)) s r ⌝ }
-{
-    if !enter(index, map, h, 0, page) {
-        return Checked { ok: false, scan: s };
-    }
-    leaf_check::leaves::scan_single(index, keys, used, h, page, 0, s)
-}
-
-// The root, which no entry points at, and all below it.
-pub fn root_ok(
-    index: &[u8],
-    keys: &[u64],
-    used: &[u8],
-    map: &mut [u8],
-    h: Index,
-    level: u8,
-    page: PageNo,
-    s: Scan,
-) -> Checked
-    requires { ⌜ WalkPre h (now index) (now keys) (now used) (now map) s ⌝ }
-    ensures { λ r. ⌜ Walked h (now (index .entry)) (now (keys .entry)) (now (used .entry)) (suc level) (0, page .0) (now (map .entry)) (now (map .exit)) s r ⌝ }
-{
-    if level == 0 {
-        return single_ok(index, keys, used, map, h, page, s);
-    }
-    page_ok(index, keys, used, map, h, level, page, 0, s)
 }

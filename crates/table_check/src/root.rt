@@ -39,7 +39,7 @@ fn tree_marked(index: &[u8], keys: &[u64], used: &[u8], map: &mut [u8], h: Index
         closed: false,
     };
     let root = h.root;
-    let end = crate::pages::root_ok(index, keys, used, map, h, level, root, start);
+    let end = crate::pages::page_ok(index, keys, used, map, h, level, root, 0, start);
     if !end.ok {
         return false;
     }

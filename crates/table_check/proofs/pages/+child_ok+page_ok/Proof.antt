@@ -5,7 +5,7 @@ use native.Mathlib.Omega.{arith}
 use lib.ListN.{length}
 use borrow.Author.Tests.{not-true, not-false}
 use Rattle.leaf_check.proofs.RowTurns.{RowTurn, entryAt, entry-few, row-start, row-depth, row-entry, row-more, row-all, row-marks}
-use Rattle.table_check.proofs.MetPages.{MetPage, met-page, met-marked, met-long, leaves-pre, row-pre, walk-on, walked-refused, walked-row, walked-row-no, walked-row-at, walked-at, walked-lower}
+use Rattle.table_check.proofs.MetPages.{MetPage, met-page, met-marked, met-long, leaves-pre, walk-on, walked-refused, walked-row, walked-row-no, walked-leaves, walked-at, walked-lower}
 use borrow.Author.Needs.{needs}
 use Prim.Native.Nat.{ℕ}
 use borrow.Fn.Kinds.{In}
@@ -21,8 +21,8 @@ use Rattle.index_table.proofs.layout.count.Reads as count-reads
 use Rattle.index_table.proofs.layout.depth.Reads as depth-reads
 use Rattle.index_table.proofs.layout.wide.Reads as wide-reads
 use Rattle.leaf_check.proofs.leaves.closes.Reads as closes-reads
+use Rattle.leaf_check.proofs.leaves.scan_leaves.Reads as scan-leaves-reads
 use Rattle.table_check.proofs.pages.enter.Reads as enter-reads
-use Rattle.table_check.proofs.pages.leaves_ok.Reads as leaves-ok-reads
 use Rattle.table_check.proofs.pages.+child_ok+page_ok.{statement}
 use Rattle.table_check.proofs.pages.+child_ok+page_ok.Tie.{close}
 
@@ -53,8 +53,8 @@ abbrev page-ok-claims : ℕ → page-ok-lts.Claims
 page-ok-claims t = (
   enter-reads.Asked,
   enter-reads.Learnt,
-  leaves-ok-reads.Asked,
-  leaves-ok-reads.Learnt,
+  scan-leaves-reads.Asked,
+  scan-leaves-reads.Learnt,
   count-reads.Asked,
   count-reads.Learnt,
   wide-reads.Asked,
@@ -75,7 +75,7 @@ child-ok-sub-page-ok :
 child-ok-sub-page-ok t c = search needs
 
 child-ok-page-ok-requires : (t : ℕ) → child-ok-lts.Need-page-ok-requires (child-ok-claims t) (child-ok-at t) child-ok.Post
-child-ok-page-ok-requires t c κs = let p = c .before .before .before .before .before .pre in (let m = p .0 in omega (arith, m, p .1 .1), (p .1 .0, omega (arith, p .1 .1)))
+child-ok-page-ok-requires t c κs = (let m = c .before .before .before .before .before .pre .0 in omega (arith, m, c .before .before .before .before .before .pre .1 .1), c .before .before .before .before .before .pre .1 .0)
 
 child-ok-same-length :
     (t : ℕ) →
@@ -85,7 +85,7 @@ child-ok-same-length t c = search needs
 child-ok-returns :
     (t : ℕ) →
     child-ok-lts.Need-returns (child-ok-claims t) (child-ok-at t) child-ok.Post
-child-ok-returns t c = walked-lower _ (let l = c .before .before .before .before .before .before .before .before .pre .1 .1 in omega (arith, l)) (c .before .before .page-ok .ensures)
+child-ok-returns t c = walked-lower _ (c .before .before .before .before .before .before .before .before .pre .1 .1) (c .before .before .page-ok .ensures)
 
 abbrev page-ok-Inv-loop : page-ok-lts.InvT-loop
 page-ok-Inv-loop index keys used map₀ h level page c n scan₀ i₀ map scan i = RowTurn h index keys used (page .0) c level n map₀ scan₀ map scan i × (length map ≡ length map₀)
@@ -96,25 +96,25 @@ page-ok-μ-loop index keys used map₀ h level page c n scan₀ i₀ map scan i 
 -- The page was met.
 met : (t : ℕ) (c : page-ok-lts.Else1 (page-ok-claims t) (page-ok-at t) page-ok.Post page-ok-Inv-loop page-ok-μ-loop) → let a = c .before .before .before .before .before .before .before .before .before .args in
     MetPage (a .h) (a .index .now) (a .keys .now) (a .used .now) (a .level) (a .page .0) (a .map .now) (c .before .before .before .enter .last .1 .0) (a .s)
-met t c = met-page (c .before .before .before .before .before .before .before .before .before .pre .1 .0) (c .before .before .before .enter .ensures) (not-false _ (c .if1 .left))
+met t c = met-page (c .before .before .before .before .before .before .before .before .before .pre .1) (c .before .before .before .enter .ensures) (not-false _ (c .if1 .left))
 
 page-ok-enter-requires : (t : ℕ) → page-ok-lts.Need-enter-requires (page-ok-claims t) (page-ok-at t) page-ok.Post page-ok-Inv-loop page-ok-μ-loop
-page-ok-enter-requires t c κs = (c .before .before .before .before .before .pre .1 .0 .table, c .before .before .before .before .before .pre .1 .0 .long)
+page-ok-enter-requires t c κs = (c .before .before .before .before .before .pre .1 .table, c .before .before .before .before .before .pre .1 .long)
 
 page-ok-same-length : (t : ℕ) → page-ok-lts.Need-same-length (page-ok-claims t) (page-ok-at t) page-ok.Post page-ok-Inv-loop page-ok-μ-loop
 page-ok-same-length t c = search needs
 
 page-ok-returns : (t : ℕ) → page-ok-lts.Need-returns (page-ok-claims t) (page-ok-at t) page-ok.Post page-ok-Inv-loop page-ok-μ-loop
-page-ok-returns t c = walked-refused (c .before .before .before .before .before .before .before .before .before .pre .1 .0) (c .before .before .before .enter .ensures) (not-true _ (c .if1 .taken)) _ refl
+page-ok-returns t c = walked-refused (c .before .before .before .before .before .before .before .before .before .pre .1) (c .before .before .before .enter .ensures) (not-true _ (c .if1 .taken)) _ refl
 
-page-ok-leaves-ok-requires : (t : ℕ) → page-ok-lts.Need-leaves-ok-requires (page-ok-claims t) (page-ok-at t) page-ok.Post page-ok-Inv-loop page-ok-μ-loop
-page-ok-leaves-ok-requires t c κs = row-pre (met t (c .before .before))
+page-ok-scan-leaves-requires : (t : ℕ) → page-ok-lts.Need-scan-leaves-requires (page-ok-claims t) (page-ok-at t) page-ok.Post page-ok-Inv-loop page-ok-μ-loop
+page-ok-scan-leaves-requires t c κs = leaves-pre (met t (c .before))
 
 page-ok-same-length-2 : (t : ℕ) → page-ok-lts.Need-same-length-2 (page-ok-claims t) (page-ok-at t) page-ok.Post page-ok-Inv-loop page-ok-μ-loop
-page-ok-same-length-2 t c = c .before .before .leaves-ok .kept .1 .1 .1 .0 ∙ met-long (met t (c .before .before .before .before .before))
+page-ok-same-length-2 t c = met-long (met t (c .before .before))
 
 page-ok-returns-2 : (t : ℕ) → page-ok-lts.Need-returns-2 (page-ok-claims t) (page-ok-at t) page-ok.Post page-ok-Inv-loop page-ok-μ-loop
-page-ok-returns-2 t c = walked-row-at (met t (c .before .before .before .before .before)) (c .before .before .before .before .if2 .taken) (c .before .before .leaves-ok .ensures)
+page-ok-returns-2 t c = walked-leaves (met t (c .before .before)) (c .before .if2 .taken) (c .scan-leaves .ensures)
 
 page-ok-count-requires : (t : ℕ) → page-ok-lts.Need-count-requires (page-ok-claims t) (page-ok-at t) page-ok.Post page-ok-Inv-loop page-ok-μ-loop
 page-ok-count-requires t c κs = leaves-pre (met t (c .before)) .within
@@ -144,7 +144,7 @@ page-ok-child-requires : (t : ℕ) → page-ok-lts.Need-child-requires (page-ok-
 page-ok-child-requires t c κs = let l = leaves-pre (met t (c .before .before .before .before .before .before .before .before)) in (l .within, entry-few (c .before .before .before .before .before .before .before .before .before .before .before .before .before .before .before .before .before .args .h) _ _ _ _ (c .before .before .before .before .before .wide .ensures .0 ∙ c .before .before .before .before .before .before .count .ensures) (l .few) (c .before .before .before .loop-test .taken))
 
 page-ok-child-ok-requires : (t : ℕ) → page-ok-lts.Need-child-ok-requires (page-ok-claims t) (page-ok-at t) page-ok.Post page-ok-Inv-loop page-ok-μ-loop
-page-ok-child-ok-requires t c κs = let m = c .before .before .before .before .before .before .before .before .before .before .before .before .before .before .before .before .before .before .before .pre .0 in let l = c .before .before .before .before .before .before .before .before .before .if2 .left in let inv = c .before .before .before .before .before .before .loop .inv in (omega (arith, m, l), (walk-on (met t (c .before .before .before .before .before .before .before .before .before .before)) _ _ (inv .1) (inv .0 .turned .marked) (inv .0 .turned .carried), omega (arith, l, (c .before .before .before .before .before .before .before .before .before .before .before .before .before .before .before .before .before .before .before .pre .1 .1))))
+page-ok-child-ok-requires t c κs = let m = c .before .before .before .before .before .before .before .before .before .before .before .before .before .before .before .before .before .before .before .pre .0 in let l = c .before .before .before .before .before .before .before .before .before .if2 .left in let inv = c .before .before .before .before .before .before .loop .inv in (omega (arith, m, l), (walk-on (met t (c .before .before .before .before .before .before .before .before .before .before)) _ _ (inv .1) (inv .0 .turned .marked) (inv .0 .turned .carried), omega (arith, l)))
 
 page-ok-same-length-4 : (t : ℕ) → page-ok-lts.Need-same-length-4 (page-ok-claims t) (page-ok-at t) page-ok.Post page-ok-Inv-loop page-ok-μ-loop
 page-ok-same-length-4 t c = c .before .before .before .before .child-ok .kept .1 .1 .1 .0 ∙ c .before .before .before .before .before .before .before .before .before .before .before .loop .inv .1 ∙ met-long (met t (c .before .before .before .before .before .before .before .before .before .before .before .before .before .before .before))
@@ -187,7 +187,7 @@ pub +child-ok+page-ok-spec : {M : Type 1} → statement M
     (page-ok-enter-requires t)
     (page-ok-same-length t)
     (page-ok-returns t)
-    (page-ok-leaves-ok-requires t)
+    (page-ok-scan-leaves-requires t)
     (page-ok-same-length-2 t)
     (page-ok-returns-2 t)
     (page-ok-count-requires t)
