@@ -1,5 +1,4 @@
 // Lines gathered from chunks of input of any size.
-ghost use mathlib.Core.Path.{_≡_};
 ghost use Prim.Native.Nat.{_≤_};
 ghost use lib.ListN.{length};
 ghost use Rattle.book_input.specs.Gathering.{Keeps, TakePre, Takes};

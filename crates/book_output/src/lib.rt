@@ -1,5 +1,4 @@
 // What a read gave is answered, and the answers are written to standard output.
-ghost use mathlib.Core.Path.{_≡_};
 ghost use Rattle.day_book.specs.LineAnswers.{tables};
 ghost use Rattle.book_output.specs.Readings.{PiecesReady, PiecesDo, EndReady, EndDoes, ReadDoes};
 use book_chunks::Progress;

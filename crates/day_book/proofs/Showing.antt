@@ -1,12 +1,12 @@
 -- What is shown of each call can be written, and is. Assumes nothing.
-use mathlib.Core.Path.{_≡_, refl, sym, ap, subst, _∙_}
+use mathlib.Core.Path.{_≡_, refl, sym, subst}
 use mathlib.Core.Bool.{Bool, true, false, cond, _&&_, _||_}
 use mathlib.Core.Option.{Option, none, some}
 use mathlib.Core.List.{List, [], _∷_, _++_}
-use Prim.Native.Nat.{ℕ, zero, suc, _≤_, _<_, min}
+use Prim.Native.Nat.{ℕ, zero, suc, _≤_}
 use native.Mathlib.Omega.{arith}
 use lib.Dec.{eqb, leb}
-use lib.ListN.{length, take, drop, replicate, length-append, length-take, length-drop}
+use lib.ListN.{length, take, drop, replicate}
 use Rattle.leaf_list.specs.Herd.{Herd, lookup, recordsOf}
 use Rattle.leaf_list.specs.Register.{inUse, herdOf}
 use Rattle.leaf_list.proofs.RegisterHerd.{herdOf-holds, lookup-holds}
@@ -17,10 +17,10 @@ use Rattle.index_table.proofs.SoundTables.{in-use-inside, herd-in-use}
 use Rattle.table_calls.specs.declared.answer.Answer.{Answer}
 use Rattle.table_calls.specs.Answers.{plain, found}
 use Rattle.table_calls.specs.Ranges.{between, recordsBetween, listed, listSlice}
-use Rattle.tag_index.specs.Reading.{Judged, firstRow, behind, keptBehind, FindDoes, ListDoes}
+use Rattle.tag_index.specs.Reading.{firstRow, behind, keptBehind, FindDoes, ListDoes}
 use Rattle.table_change.specs.Changes.{tooWide}
 use Rattle.book_answers.specs.Writing.{RecordNumbers, Writable, AnswerWritten}
-use Rattle.day_book.specs.Books.{Shown, numberAlone, findShown, slice, listShown, shownLine}
+use Rattle.day_book.specs.Books.{Shown, slice}
 use Rattle.tag_index.specs.Histories.{Tables}
 use Rattle.book_lines.specs.declared.Said.{Said}
 use Rattle.book_lines.specs.declared.Said.the-variants.{Bad, OutOfRange}

@@ -1,5 +1,4 @@
 // The day book: a line in, its answer line out.
-ghost use mathlib.Core.Path.{_≡_};
 ghost use Prim.Native.Nat.{_≤_};
 ghost use lib.ListN.{length};
 ghost use Rattle.day_book.specs.LineAnswers.{tables, OnLineDoes, OffLineDoes, FindLineDoes, ListLineDoes, NoneDoes, LineDoes};

@@ -1,14 +1,13 @@
 -- Changes of pages one after the other, and of one entry of a row. Assumes nothing.
-use mathlib.Core.Path.{_≡_, refl, ap, _∙_}
+use mathlib.Core.Path.{_≡_, refl, _∙_}
 use mathlib.Core.Logic.{_⊎_, inl, inr}
-use mathlib.Core.List.{List, [], _∷_, _++_}
-use Prim.Native.Nat.{ℕ, suc, _+_, _≤_}
+use mathlib.Core.List.{List, _∷_, _++_}
+use Prim.Native.Nat.{ℕ, _+_, _≤_}
 use native.Mathlib.Omega.{arith}
-use lib.ListN.{length}
 use Rattle.leaf_list.proofs.Lists.{all-append}
-use Rattle.page_tree.specs.Rows.{All, sum}
+use Rattle.page_tree.specs.Rows.{All}
 use Rattle.page_tree.proofs.ListLaws.{sum-append, all-left, all-right}
-use Rattle.index_table.specs.Layout.{Layout, Ref, pageBytes, refsOf}
+use Rattle.index_table.specs.Layout.{Layout, Ref, pageBytes}
 use Rattle.index_table.specs.Pages.{pagesAt, met, metAll, inUse}
 use Rattle.index_table.specs.Soundness.{SoundBelow}
 use Rattle.index_table.specs.Standing.{Owned, Stands}

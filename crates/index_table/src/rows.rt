@@ -1,5 +1,4 @@
 // Pages of the index table as rows.
-ghost use mathlib.Core.Path.{_≡_};
 ghost use mathlib.Core.List.{_++_};
 ghost use Prim.Native.Nat.{suc, _+_, _-_, _≤_};
 ghost use lib.ListN.{length};

@@ -1,18 +1,18 @@
 -- The entries of a page of level 0, before the live ones are compared with the records held. Assumes nothing.
 use mathlib.Core.Path.{_≡_, sym, ap, _∙_}
 use mathlib.Core.Logic.{_↔_}
-use mathlib.Core.Bool.{true, false, true≢false}
+use mathlib.Core.Bool.{false, true≢false}
 use mathlib.Core.List.{List, []}
 use Prim.Native.Nat.{ℕ, _≤_, _<_}
 use native.Mathlib.Omega.{arith}
 use Rattle.leaf_list.specs.Entries.{Entry}
 use Rattle.leaf_list.specs.Register.{keyAt, inUse}
-use Rattle.leaf_list.specs.Conditions.{State, run}
+use Rattle.leaf_list.specs.Conditions.{State}
 use Rattle.leaf_list.proofs.Check.{run-live}
 use Rattle.index_table.specs.Layout.{Ref}
 use Rattle.index_table.specs.declared.header.Index.{Index}
 use Rattle.bytes_check.specs.Scans.{rowsOf}
-use Rattle.leaf_check.specs.Leaves.{countless, stateOf, Carried, Passing, Scanned, leavesOfRow, RowSound}
+use Rattle.leaf_check.specs.Leaves.{countless, stateOf, Carried, Scanned, leavesOfRow, RowSound}
 use Rattle.leaf_check.specs.declared.entries.Scan.{Scan}
 use Rattle.leaf_check.specs.declared.entries.Checked.{Checked}
 use Rattle.leaf_check.proofs.EntryTests.{scanned-no}

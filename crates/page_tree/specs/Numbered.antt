@@ -5,7 +5,6 @@ use lib.ListN.{length}
 use Rattle.leaf_list.specs.Keys.{bits}
 use Rattle.leaf_list.specs.Entries.{Entry}
 use Rattle.leaf_list.specs.Search.{positions}
-use Rattle.page_tree.specs.declared.Unwind.{Unwind}
 use Rattle.page_tree.specs.Tree.{Node, depth, leaves, Tree}
 use Rattle.page_tree.specs.Cutting.{parts}
 use Rattle.page_tree.specs.OnPages.{Replacement, newEntries, replaceIn}

@@ -14,7 +14,7 @@ use Rattle.leaf_list.specs.Entries.{Entry, entry, liveRecords}
 use Rattle.leaf_list.specs.Herd.{Herd, lookup}
 use Rattle.leaf_list.specs.LeafList.{leafList}
 use Rattle.leaf_list.specs.Register.{keyAt, inUse, herdOf}
-use Rattle.leaf_list.specs.Search.{positions, search, pointerAt, compared}
+use Rattle.leaf_list.specs.Search.{positions, pointerAt, compared}
 use Rattle.leaf_list.proofs.Laws.{find-law, closed-law, liveRecords-law}
 use Rattle.leaf_list.proofs.Positions.{Beyond, positions-rise, positions-beyond}
 use Rattle.leaf_list.proofs.PassedEntries.{live-stack}

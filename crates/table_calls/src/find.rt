@@ -1,6 +1,6 @@
 // Find, behind the check.
 ghost use mathlib.Core.Path.{_≡_};
-ghost use Prim.Native.Nat.{_≤_, _<_, _^_};
+ghost use Prim.Native.Nat.{_<_, _^_};
 ghost use Rattle.leaf_list.specs.Herd.{lookup};
 ghost use Rattle.leaf_list.specs.Register.{herdOf};
 ghost use Rattle.index_table.specs.Header.{widthOf};

@@ -1,10 +1,9 @@
 // List, behind the check: from the place of the lower end to the right.
 ghost use mathlib.Core.Path.{_≡_};
-ghost use Prim.Native.Nat.{_≤_, _<_, _^_};
+ghost use Prim.Native.Nat.{_<_, _^_};
 ghost use Rattle.leaf_list.specs.Register.{herdOf};
 ghost use Rattle.index_table.specs.Header.{widthOf};
-ghost use Rattle.index_table.specs.Layout.{layoutOf};
-ghost use Rattle.index_table.specs.Pages.{pagesAt, recordOf};
+ghost use Rattle.index_table.specs.Pages.{recordOf};
 ghost use Rattle.index_table.specs.Soundness.{Sound};
 ghost use Rattle.table_calls.specs.Listings.{begun, visited, VisitPre, RowPre, RowListed, FromPre, FromListed, Listed};
 use crate::answer::Answer;

@@ -1,8 +1,6 @@
 // Format: tables for an empty herd.
 ghost use mathlib.Core.Path.{_≡_};
-ghost use Prim.Native.Nat.{_≤_};
 ghost use lib.ListN.{length, replicate};
-ghost use Rattle.index_table.specs.Layout.{pageStart, layoutOf};
 ghost use Rattle.table_format.specs.Format.{formatFits, emptyTable, FormatDoes, EmptyPre};
 use index_table::header::Index;
 use index_table::layout::PageNo;

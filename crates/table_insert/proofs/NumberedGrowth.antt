@@ -1,10 +1,10 @@
 -- New roots with their numbers: only those of higher levels are looked at, and fuel that is enough is not seen. Assumes nothing.
-use mathlib.Core.Path.{_≡_, refl, ap, sym, _∙_}
-use mathlib.Core.List.{List, [], _∷_, map}
+use mathlib.Core.Path.{_≡_, refl, ap, _∙_}
+use mathlib.Core.List.{List, [], _∷_}
 use Prim.Native.Nat.{ℕ, zero, suc, _≤_, _<_}
 use native.Mathlib.Omega.{arith}
 use lib.ListN.{length}
-use Rattle.page_tree.specs.Tree.{Node, depth}
+use Rattle.page_tree.specs.Tree.{Node}
 use Rattle.page_tree.specs.Cutting.{parts}
 use Rattle.page_tree.specs.OnPages.{grow}
 use Rattle.page_tree.specs.Numbered.{Numbered, numberedDepth, under, growNumbered, grownNumbered}

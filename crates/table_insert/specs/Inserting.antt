@@ -11,7 +11,7 @@ use Rattle.page_tree.specs.Numbered.{insertNumbered}
 use Rattle.page_tree.specs.Row.{depthOf, rowOf}
 use Rattle.page_tree.specs.declared.Row.{Row}
 use Rattle.index_table.specs.Layout.{layoutOf, Ref, Within, Fitting}
-use Rattle.index_table.specs.Pages.{pagesAt, leafOf, nodeAt, numberedAt, met, inUse, usedPages}
+use Rattle.index_table.specs.Pages.{pagesAt, nodeAt, numberedAt, met, inUse, usedPages}
 use Rattle.index_table.specs.Standing.{Owned, Stands}
 use Rattle.index_table.specs.Storing.{newLeaves}
 use Rattle.table_search.specs.Places.{leftFrom, DescendPre}

@@ -8,7 +8,6 @@ use lib.ListN.{length}
 use Rattle.page_tree.specs.Row.{depthOf, rowOf}
 use Rattle.page_tree.specs.Rows.{sum}
 use Rattle.page_tree.specs.Tree.{Node, depth, pageCount, Tree, pagesOf}
-use Rattle.page_tree.specs.Cutting.{parts}
 use Rattle.page_tree.specs.OnPages.{grown}
 use Rattle.page_tree.specs.declared.Row.{Row}
 use Rattle.page_tree.proofs.ListLaws.{sum-concat}

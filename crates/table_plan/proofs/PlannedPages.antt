@@ -16,7 +16,6 @@ use Rattle.leaf_list.proofs.Positions.{Rising, positions-beyond, positions-rise
 use Rattle.page_tree.specs.Row.{depthOf, places, rowOf}
 use Rattle.page_tree.specs.Rows.{All, Closed, lastDepth}
 use Rattle.page_tree.specs.Tree.{Node, depth, Sound}
-use Rattle.page_tree.specs.Cutting.{parts}
 use Rattle.page_tree.specs.Finding.{Found, findBelow}
 use Rattle.page_tree.specs.OnPages.{Replacement, replaceIn, insertBelow, pagesBelow}
 use Rattle.page_tree.specs.declared.Row.{Row}

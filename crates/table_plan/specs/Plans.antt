@@ -9,10 +9,10 @@ use Rattle.page_tree.specs.Rows.{Closed, lastDepth}
 use Rattle.page_tree.specs.Cutting.{parts}
 use Rattle.page_tree.specs.Tree.{Node, depth}
 use Rattle.page_tree.specs.Finding.{findBelow}
-use Rattle.page_tree.specs.OnPages.{Replacement, insertBelow, pagesBelow}
+use Rattle.page_tree.specs.OnPages.{insertBelow, pagesBelow}
 use Rattle.page_tree.specs.declared.Row.{Row}
 use Rattle.index_table.specs.Layout.{Ref, Within, layoutOf}
-use Rattle.index_table.specs.Pages.{pagesAt, leafOf, nodeAt}
+use Rattle.index_table.specs.Pages.{pagesAt, nodeAt}
 use Rattle.index_table.specs.Storing.{newLeaves}
 use Rattle.table_search.specs.Places.{leftFrom, DescendPre}
 use Rattle.table_plan.specs.declared.Plan.{Plan}

@@ -9,7 +9,6 @@ use lib.ListN.{length, getD, take}
 use lib.Seq.{take-suc}
 use borrow.Author.Tests.{le-leb, ne-eqb, eq-eqb}
 use Rattle.leaf_list.proofs.Lists.{all-at}
-use Rattle.leaf_list.specs.Search.{positions}
 use Rattle.page_tree.specs.Rows.{lastDepth}
 use Rattle.page_tree.specs.Walk.{rest}
 use Rattle.page_tree.proofs.WalkPlaces.{Passes, positionsAfter}

@@ -1,6 +1,6 @@
 // Tag codes of ISO 11784: seven fields, and the 64-bit code that they make.
 ghost use mathlib.Core.Path.{_≡_};
-ghost use Prim.Native.Nat.{_+_, _*_, _/_, _%_, _^_, _-_, _<_, _≤_};
+ghost use Prim.Native.Nat.{_+_, _*_, _/_, _%_, _^_, _-_, _<_};
 ghost use Rattle.tag_code.specs.TagCode.{fieldsFit, packed, unpacked};
 
 // The fields of a tag, from bit 1 of its code to bit 64.

@@ -1,5 +1,4 @@
 // The calls that change the herd: the check, and the change itself.
-ghost use mathlib.Core.Path.{_≡_};
 ghost use Rattle.tag_index.specs.Changing.{OnDoes, OffDoes};
 use table_calls::answer::Answer;
 

@@ -2,9 +2,6 @@
 ghost use mathlib.Core.Path.{_≡_};
 ghost use mathlib.Core.Bool.{true};
 ghost use mathlib.Core.Logic.{_↔_};
-ghost use Prim.Native.Nat.{_≤_};
-ghost use lib.ListN.{length};
-ghost use Rattle.index_table.specs.Header.{widthOf};
 ghost use Rattle.index_table.specs.Soundness.{Sound};
 ghost use Rattle.tag_index.specs.Reading.{FirstRow, FindDoes, ListDoes};
 use table_calls::answer::Answer;

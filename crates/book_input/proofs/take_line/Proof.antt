@@ -2,7 +2,6 @@
 use borrow.Author.Needs.{needs}
 use mathlib.Core.List.{List}
 use Prim.Native.Nat.{ℕ, _-_}
-use native.Mathlib.Omega.{arith}
 use lib.ListN.{length as len}
 use Rattle.book_input.specs.declared.Taken.{Taken}
 use Rattle.book_input.specs.Gathering.{TakePre, Takes}

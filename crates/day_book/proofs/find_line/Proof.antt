@@ -1,11 +1,7 @@
 -- The answer to a `find` line. Assumes nothing.
-use mathlib.Core.Path.{_≡_, refl, sym, ap}
-use mathlib.Core.Bool.{cond}
-use mathlib.Core.List.{List, [], _∷_}
-use Prim.Native.Nat.{ℕ}
+use mathlib.Core.Path.{refl}
 use borrow.Author.Needs.{needs}
 use borrow.Author.Tests.{eq-eqb, ne-eqb}
-use lib.Dec.{eqb}
 use Rattle.day_book.specs.Books.{findShown}
 use Rattle.day_book.proofs.Showing.{shown-at, find-small}
 use Rattle.day_book.proofs.find_line.Statement.{statement}
