@@ -34,6 +34,13 @@ pub fn wide16(x: u16) -> usize
     x as usize
 }
 
+// A depth as it is counted with.
+pub fn deep(x: u8) -> u64
+    ensures { λ r. ⌜ r ≡ x ⌝ }
+{
+    x as u64
+}
+
 // How many bytes the header and `pages` pages of `e` entries take.
 pub fn table_bytes(e: u8, pages: u16) -> usize
     ensures { λ r. ⌜ r ≡ pageStart (layoutOf e) pages ⌝ }

@@ -12,16 +12,10 @@ use index_table::close::close;
 use index_table::close::replace_entry;
 use index_table::layout::PageNo;
 use index_table::layout::count;
+use index_table::layout::deep;
 use index_table::layout::depth;
 use index_table::layout::pointer;
 use index_table::layout::wide;
-
-// A depth, to compare with the depth before it.
-pub fn deep(x: u8) -> u64
-    ensures { λ r. ⌜ r ≡ x ⌝ }
-{
-    x as u64
-}
 
 // How many of the first n entries of a page stay, where dummies deeper than `than` go from the right.
 fn staying(index: &[u8], e: u8, page: PageNo, n: usize, than: u8) -> usize

@@ -7,6 +7,7 @@ ghost use Rattle.table_search.specs.Places.{ahead, firstPosition, aheadO
 use index_table::layout::PageNo;
 use index_table::layout::child;
 use index_table::layout::count;
+use index_table::layout::deep;
 use index_table::layout::depth;
 use index_table::layout::pointer;
 use index_table::layout::wide;
@@ -118,12 +119,6 @@ pub fn seek(index: &[u8], e: u8, page: PageNo, w: u64, key: u64, position: u64, 
         position: first_position(w, bits),
         trail: t,
     }
-}
-
-fn deep(x: u8) -> u64
-    ensures { λ r. ⌜ r ≡ x ⌝ }
-{
-    x as u64
 }
 
 // From a page of a level down to the entry that figure 6 finds. The position list is carried on by its next position, and the depth before with it.

@@ -5,7 +5,7 @@ ghost use Rattle.leaf_list.specs.Entries.{entry};
 ghost use Rattle.page_tree.specs.OffPages.{stepEntry, strike as strikeEntry};
 ghost use Rattle.index_table.specs.Pages.{leafOf};
 ghost use Rattle.tree_delete.specs.Entries.{Turned, IdlePost};
-use page_delete::deep;
+use index_table::layout::deep;
 use page_tree::Unwind;
 
 // What is left of an entry: it stays, with this depth and pointer, or it is gone; and what is asked of the entry before.

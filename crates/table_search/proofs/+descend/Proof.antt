@@ -12,7 +12,7 @@ use Rattle.table_search.proofs.+descend.Lts-descend as descend-lts
 use Rattle.index_table.proofs.layout.child.Reads as child-reads
 use Rattle.index_table.proofs.layout.depth.Reads as depth-reads
 use Rattle.index_table.proofs.layout.pointer.Reads as pointer-reads
-use Rattle.table_search.proofs.deep.Reads as deep-reads
+use Rattle.index_table.proofs.layout.deep.Reads as deep-reads
 use Rattle.table_search.proofs.seek.Reads as seek-reads
 use Rattle.table_search.proofs.+descend.{statement}
 use Rattle.table_search.proofs.+descend.Tie.{close}
