@@ -73,8 +73,9 @@ enum tag_index_number {
 #define TAG_INDEX_PAGE_BYTES(e) (2 + 3 * (size_t)(e))
 #define TAG_INDEX_BYTES(e, p) (TAG_INDEX_HEADER_BYTES + (size_t)(p) * TAG_INDEX_PAGE_BYTES(e))
 
-/* Bytes of stack that are enough for format, find, list and check, which read,
-   and for on and off, which change, on x86-64. Give a thread 512 KiB. */
+/* Bytes of stack, measured on x86-64, that no call of tests/stack.c took more
+   of: format, find, list and check, which read, and on and off, which change.
+   Give a thread 512 KiB. */
 #define TAG_INDEX_STACK_TO_READ 75000
 #define TAG_INDEX_STACK_TO_CHANGE 360000
 
