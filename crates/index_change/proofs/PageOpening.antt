@@ -6,14 +6,14 @@ use native.Mathlib.Omega.{arith}
 use native.Mathlib.Numerals.{add-one}
 use lib.ListN.{length}
 use lib.Dec.{leb}
-use Rattle.index_table.specs.Bytes.{over}
+use Rattle.byte_moves.specs.Over.{over}
 use Rattle.index_table.specs.Layout.{layoutOf, pageBytes, countOf, rowBytes}
 use Rattle.index_table.specs.Header.{widthOf, entriesOf, withHeld}
 use Rattle.index_table.specs.IndexNumbers.{IndexOf}
 use Rattle.index_table.specs.declared.header.Index.{Index}
 use Rattle.index_table.specs.Pages.{pagesAt}
-use Rattle.index_table.specs.Storing.{Opened}
 use Rattle.index_table.proofs.PageRows.{length-refs}
+use Rattle.page_change.specs.Opening.{Opened}
 use Rattle.new_entries.specs.declared.entries.News.{News}
 use Rattle.new_entries.specs.Entries.{refsFor, Newly}
 use Rattle.new_entries.proofs.NewLeaves.{news-long}

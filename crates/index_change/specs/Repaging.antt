@@ -8,6 +8,7 @@ use lib.ListN.{length, take}
 use Rattle.leaf_list.specs.Keys.{bits}
 use Rattle.leaf_list.specs.Search.{positions}
 use Rattle.leaf_list.proofs.Depths.{Neighbours}
+use Rattle.leaf_list.specs.Entries.{depthOf}
 use Rattle.page_tree.specs.Row.{rowOf}
 use Rattle.page_tree.specs.Rows.{All, Closed}
 use Rattle.page_tree.specs.Finding.{Found, findIn}
@@ -15,13 +16,13 @@ use Rattle.page_tree.specs.Tree.{Tree, pagesOf as treePages}
 use Rattle.page_tree.specs.OnPages.{insertTree}
 use Rattle.page_tree.specs.Numbered.{NumberedTree, insertNumberedTree}
 use Rattle.page_tree.specs.declared.Row.{Row}
-use Rattle.leaf_list.specs.Entries.{depthOf}
 use Rattle.index_table.specs.Layout.{layoutOf, pageBytes, levelOf, Ref, Fitting, rowPage, store}
 use Rattle.index_table.specs.Header.{widthOf, entriesOf, pagesOf, rootOf, heldOf, withRoot, withHeld}
 use Rattle.index_table.specs.Pages.{pagesAt, numberedTreeAt}
 use Rattle.index_table.specs.Soundness.{SoundPages, rootLevel, treeOf, numberedTreeOf, leafEntries}
-use Rattle.index_table.specs.Standing.{TreeTable}
-use Rattle.index_table.specs.Storing.{newLeaves, splicedAt, Openable}
+use Rattle.index_write.specs.Standing.{TreeTable}
+use Rattle.index_write.specs.Storing.{newLeaves, splicedAt}
+use Rattle.page_change.specs.Opening.{Openable}
 use Rattle.table_search.specs.declared.Leaf.{Leaf}
 use Rattle.table_search.specs.Places.{NextPosition, Way}
 use Rattle.new_entries.specs.declared.entries.News.{News}

@@ -10,9 +10,9 @@ ghost use Rattle.new_entries.specs.Entries.{refsFor};
 ghost use Rattle.index_change.specs.Repaging.{OffPagesPre, Repaged, lateRowWith, OnPagesPre, Roomy, OnPages, roomFor, OpenPre, openedWith};
 use index_table::header::Index;
 use index_table::layout::PageNo;
+use index_table::layout::deep;
 use new_entries::entries::News;
 use page_tree::Row;
-use table_calls::find::wide;
 use table_search::Leaf;
 
 // The entry that figure 6 finds for a key, at the leaf, is taken out.
@@ -28,12 +28,12 @@ pub fn strike_pages(index: &mut [u8], key: u64, leaf: Leaf)
         h.pages,
         level,
         h.root,
-        wide(h.width),
+        deep(h.width),
         key,
         leaf,
     );
-    index_table::write::set_root(index, root.page);
-    index_table::write::set_held(index, h.held - 1);
+    index_write::write::set_root(index, root.page);
+    index_write::write::set_held(index, h.held - 1);
 }
 
 // Row 8 or 7, the first that applies to an insertion of the entries; 0 if neither does.
@@ -49,7 +49,7 @@ pub fn late_row(index: &[u8], key: u64, news: Row) -> u32
         h.pages,
         level,
         h.root,
-        wide(h.width),
+        deep(h.width),
         key,
         news,
     );
@@ -82,9 +82,9 @@ pub fn open_leaf(index: &mut [u8], page: PageNo, at: usize, key: u64, news: News
     ensures { λ r. ⌜ now (index .exit) ≡ openedWith (now (index .entry)) (page .0) at (refsFor (widthOf (now (index .entry))) key news) ⌝ }
 {
     let head = index_table::header::read(index);
-    let place = index_table::open::open_page(index, head.entries, page, at, news.count);
-    new_entries::news::write_news(index, place, wide(head.width), key, news);
-    index_table::write::set_held(index, head.held + 1);
+    let place = page_change::open::open_page(index, head.entries, page, at, news.count);
+    new_entries::news::write_news(index, place, deep(head.width), key, news);
+    index_write::write::set_held(index, head.held + 1);
 }
 
 // Entries are put in the place of the one that figure 6 finds for a key.
@@ -100,10 +100,10 @@ pub fn splice_pages(index: &mut [u8], key: u64, news: Row)
         h.pages,
         level,
         h.root,
-        wide(h.width),
+        deep(h.width),
         key,
         news,
     );
-    index_table::write::set_root(index, root.page);
-    index_table::write::set_held(index, h.held + 1);
+    index_write::write::set_root(index, root.page);
+    index_write::write::set_held(index, h.held + 1);
 }

@@ -1,5 +1,6 @@
 pub mod ListLaws
 pub mod NumberLaws
+pub mod Pointers
 pub mod PageBytes
 pub mod PageRows
 pub mod PageReads
@@ -7,16 +8,5 @@ pub mod PageCounts
 pub mod Frames
 pub mod SoundNodes
 pub mod SoundTables
-pub mod StoredRows
 pub mod UsedPages
-pub mod HeaderLaws
-pub mod Writing
-pub mod RowWriting
-pub mod MovedBytes
-pub mod OpenedPages
-pub mod StandingLaws
 pub mod NumberedPages
-pub mod LoadedRows
-pub mod PageParts
-pub mod PageChanges
-pub mod WholePages

@@ -1,8 +1,7 @@
--- Numbers in bytes, and bytes written over others. Assumes nothing.
+-- Numbers in bytes. Assumes nothing.
 use mathlib.Core.Path.{_≡_}
 use mathlib.Core.List.{List, [], _∷_, _++_}
 use Prim.Native.Nat.{ℕ, zero, suc, _+_, _*_, _/_, _%_}
-use lib.Seq.{sets}
 
 -- "Numbers are stored high byte first": the number of some bytes after the number a, and the k bytes of a number.
 unfoldable pub numberAfter : ℕ → List ℕ → ℕ
@@ -15,10 +14,6 @@ number bytes = numberAfter 0 bytes
 unfoldable pub bytesOf : ℕ → ℕ → List ℕ
 bytesOf zero n = []
 bytesOf (suc k) n = bytesOf k (n / 256) ++ (n % 256 ∷ [])
-
--- The list vs written over l from place i on; the length stays.
-unfoldable pub over : {A : Type 0} → List A → ℕ → List A → List A
-over l i vs = sets l i vs
 
 -- f i, f (i + 1), .., n of them.
 unfoldable pub table : {A : Type 0} → (ℕ → A) → ℕ → ℕ → List A

@@ -3,7 +3,8 @@ use mathlib.Core.Path.{_≡_}
 use mathlib.Core.List.{List, [], _∷_, _++_}
 use Prim.Native.Nat.{ℕ, suc, _+_, _*_}
 use lib.ListN.{getD, take, drop}
-use Rattle.index_table.specs.Bytes.{bytesOf, over}
+use Rattle.byte_moves.specs.Over.{over}
+use Rattle.index_table.specs.Bytes.{bytesOf}
 
 -- Two bytes from place i on, as a number.
 abbrev pub wordAt : List ℕ → ℕ → ℕ

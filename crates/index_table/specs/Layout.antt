@@ -3,7 +3,8 @@ use mathlib.Core.List.{List, [], _∷_, _++_}
 use Prim.Native.Nat.{ℕ, suc, _+_, _*_, _-_, _^_, _≤_, _<_}
 use lib.ListN.{length, getD, take, drop, replicate}
 use Rattle.page_tree.specs.Rows.{All}
-use Rattle.index_table.specs.Bytes.{number, bytesOf, over, table}
+use Rattle.byte_moves.specs.Over.{over}
+use Rattle.index_table.specs.Bytes.{number, bytesOf, table}
 
 -- The sizes that a table's format fixes, in bytes: before the pages; of a page before its entries; of a pointer. Then the entries a page may hold.
 pub record Layout : Type 0 where

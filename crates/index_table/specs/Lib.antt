@@ -5,6 +5,3 @@ pub mod Pages
 pub mod Soundness
 pub mod Answers
 pub mod IndexNumbers
-pub mod Storing
-pub mod Standing
-pub mod Changing

@@ -34,7 +34,7 @@ pub fn wide16(x: u16) -> usize
     x as usize
 }
 
-// A depth as it is counted with.
+// A depth or a width of keys, as it is counted with.
 pub fn deep(x: u8) -> u64
     ensures { λ r. ⌜ r ≡ x ⌝ }
 {

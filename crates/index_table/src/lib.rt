@@ -1,8 +1,3 @@
-// The index table as bytes: its header and its pages.
-pub mod close;
+// The index table as bytes: its header and its pages, as they are read.
 pub mod header;
 pub mod layout;
-mod moves;
-pub mod open;
-pub mod rows;
-pub mod write;

@@ -14,9 +14,9 @@ use Rattle.leaf_list.specs.Search.{positions}
 use Rattle.leaf_list.specs.Insertion.{dummies}
 use Rattle.leaf_list.proofs.Bits.{bits-length}
 use Rattle.page_tree.proofs.RowLaws.{Full, full-set, stored-behind}
-use Rattle.index_table.specs.Bytes.{over}
+use Rattle.byte_moves.specs.Over.{over}
+use Rattle.byte_moves.proofs.OverLaws.{over-none, over-append}
 use Rattle.index_table.specs.Layout.{Ref, refBytes, rowBytes}
-use Rattle.index_table.proofs.ListLaws.{over-none, over-append}
 use Rattle.index_table.proofs.PageRows.{length-row-bytes, row-bytes-append}
 use Rattle.table_search.specs.Places.{later, leftFrom, NextPosition}
 use Rattle.new_entries.specs.Entries.{refOf}

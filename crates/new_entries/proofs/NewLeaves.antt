@@ -19,7 +19,7 @@ use Rattle.page_tree.specs.Rows.{All}
 use Rattle.page_tree.proofs.FlatInsertion.{dummies-append}
 use Rattle.index_table.specs.Layout.{Fitting}
 use Rattle.index_table.specs.Pages.{recordOf, leafOf}
-use Rattle.table_calls.proofs.FoundLeaves.{record-nil, record-live}
+use Rattle.index_table.proofs.Pointers.{record-nil, record-live}
 use Rattle.table_search.specs.declared.Leaf.{Leaf}
 use Rattle.new_entries.specs.Entries.{refOf, entriesFor, refsFor, DummiesPre, Newly, FoundPre, NewPre, NewPost, NewEntries}
 use Rattle.new_entries.specs.declared.entries.News.{News}

@@ -12,9 +12,9 @@ use Rattle.leaf_list.specs.Search.{positions}
 use Rattle.leaf_list.specs.Insertion.{dummies}
 use Rattle.page_tree.specs.Row.{rowOf, Holds}
 use Rattle.page_tree.specs.declared.Row.{Row}
-use Rattle.index_table.specs.Bytes.{over}
+use Rattle.byte_moves.specs.Over.{over}
+use Rattle.byte_moves.proofs.OverLaws.{over-append}
 use Rattle.index_table.specs.Layout.{Ref, refBytes, rowBytes}
-use Rattle.index_table.proofs.ListLaws.{over-append}
 use Rattle.index_table.proofs.PageRows.{length-ref-bytes, length-row-bytes, row-bytes-append}
 use Rattle.new_entries.specs.declared.entries.News.{News}
 use Rattle.new_entries.specs.Entries.{refOf, refsFor, Newly}

@@ -6,12 +6,12 @@ ghost use lib.ListN.{length};
 ghost use Rattle.leaf_list.specs.Keys.{bits};
 ghost use Rattle.leaf_list.specs.Insertion.{dummies};
 ghost use Rattle.leaf_list.specs.Search.{positions};
-ghost use Rattle.index_table.specs.Bytes.{over};
-ghost use Rattle.index_table.specs.Layout.{rowBytes};
 ghost use Rattle.page_tree.specs.Row.{rowOf, Holds};
+ghost use Rattle.byte_moves.specs.Over.{over};
+ghost use Rattle.index_table.specs.Layout.{rowBytes};
 ghost use Rattle.new_entries.specs.Entries.{DummiesPre, refOf, refsFor, Newly};
 use crate::entries::News;
-use index_table::write::write_entry;
+use index_write::write::write_entry;
 use page_tree::Row;
 
 // A dummy for each one-bit of the key between low and high, from a place on; where the next entry goes.

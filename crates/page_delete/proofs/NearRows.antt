@@ -20,9 +20,9 @@ use Rattle.page_tree.proofs.ListLaws.{all-left, all-right}
 use Rattle.page_tree.proofs.ClosedRows.{lastDepth-append}
 use Rattle.index_table.specs.Layout.{layoutOf, Ref, Within, pageBytes, countOf, refAt, Fitting, rowPage, store}
 use Rattle.index_table.specs.Pages.{pagesAt, leafOf}
-use Rattle.index_table.specs.Changing.{WholePage, withRow, without}
 use Rattle.index_table.proofs.PageRows.{length-refs, getD-refs, take-refs}
-use Rattle.index_table.proofs.PageChanges.{row-read, row-whole, row-again}
+use Rattle.page_change.specs.Changing.{WholePage, withRow, without}
+use Rattle.page_change.proofs.PageChanges.{row-read, row-whole, row-again}
 use Rattle.page_delete.specs.OnePage.{leafRow, Calm, askedBefore, Staying, NearPre, FollowedPre, GivePre, NearDone, NearPost, struckAt, StrikePost, DummyPost}
 use Rattle.page_delete.proofs.StayingEntries.{sweep-last, idle-leaves}
 

@@ -12,7 +12,7 @@ use Rattle.page_tree.specs.declared.Unwind.{Unwind}
 use Rattle.page_tree.specs.declared.Unwind.the-variants.{Idle, Give, Clear}
 use Rattle.index_table.specs.Layout.{layoutOf, Ref, pageBytes, levelOf, Fitting, rowPage, store}
 use Rattle.index_table.specs.Pages.{pagesAt, leafOf}
-use Rattle.index_table.specs.Changing.{WholePage}
+use Rattle.page_change.specs.Changing.{WholePage}
 
 -- A row of a page of level 0 as entries of the leaf list.
 abbrev pub leafRow : List Ref → List Entry

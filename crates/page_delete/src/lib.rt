@@ -8,14 +8,14 @@ ghost use Rattle.page_tree.specs.declared.Unwind.the-variants.{Give, Clear};
 ghost use Rattle.index_table.specs.Layout.{Within, layoutOf};
 ghost use Rattle.index_table.specs.Pages.{pagesAt};
 ghost use Rattle.page_delete.specs.OnePage.{Calm, askedBefore, Staying, NearPre, FollowedPre, GivePre, NearPost, StrikePost, DummyPost};
-use index_table::close::close;
-use index_table::close::replace_entry;
 use index_table::layout::PageNo;
 use index_table::layout::count;
 use index_table::layout::deep;
 use index_table::layout::depth;
 use index_table::layout::pointer;
 use index_table::layout::wide;
+use page_change::close::close;
+use page_change::close::replace_entry;
 
 // How many of the first n entries of a page stay, where dummies deeper than `than` go from the right.
 fn staying(index: &[u8], e: u8, page: PageNo, n: usize, than: u8) -> usize

@@ -1,14 +1,12 @@
 -- Where a key's search ends in sound tables, and what its record is. Assumes nothing.
-use mathlib.Core.Path.{_≡_, refl, sym, ap, subst, _∙_}
+use mathlib.Core.Path.{_≡_, sym, ap, subst, _∙_}
 use mathlib.Core.Logic.{_≢_}
-use mathlib.Core.Bool.{Bool, true, false, cond}
+use mathlib.Core.Bool.{Bool, true, cond}
 use mathlib.Core.Option.{Option, none, some}
 use mathlib.Core.List.{List, [], _∷_, reverseAux}
 use Prim.Native.Nat.{ℕ, _^_, _≤_, _<_}
 use native.Mathlib.Omega.{arith}
-use lib.Dec.{eqb}
 use lib.ListN.{length, take, drop, take-append-drop}
-use borrow.Author.Tests.{eqb-true, eqb-false, eq-eqb, ne-eqb}
 use Rattle.leaf_list.specs.Keys.{bits, sameKey}
 use Rattle.leaf_list.specs.Entries.{Entry, entry, liveRecords}
 use Rattle.leaf_list.specs.Herd.{Herd, lookup}
@@ -31,24 +29,14 @@ use Rattle.index_table.specs.Header.{widthOf, entriesOf, pagesOf, rootOf}
 use Rattle.index_table.specs.Pages.{pagesAt, recordOf, treeAt}
 use Rattle.index_table.specs.IndexNumbers.{IndexOf}
 use Rattle.index_table.specs.declared.header.Index.{Index}
-use Rattle.index_table.specs.Answers.{answerOf}
-use Rattle.index_table.specs.declared.layout.RecordNo.{RecordNo}
-use Rattle.index_table.specs.declared.layout.Answer.{Answer as LeafAnswer}
-use Rattle.index_table.specs.declared.layout.Answer.the-variants.{Live, Dummy}
 use Rattle.index_table.specs.Soundness.{Sound, rootLevel}
+use Rattle.index_table.proofs.Pointers.{record-nil, record-live}
 use Rattle.index_table.proofs.SoundNodes.{sound-tree, tree-depth}
 use Rattle.index_table.proofs.SoundTables.{keys-narrow, in-use-inside, herd-narrow, herd-sorted, herd-keys, table-long, root-within, leaf-depths}
 use Rattle.table_search.specs.declared.Leaf.{Leaf}
 use Rattle.table_search.specs.Places.{leftFrom, NextPosition, DescendPre, Descended}
 use Rattle.table_calls.specs.Places.{FoundLeaf}
 use Rattle.table_calls.specs.Answers.{plain, withRecord, found}
-
--- NIL is no record; any other pointer is one.
-pub record-nil : {p : ℕ} → p ≡ 65535 → recordOf 65535 p ≡ none
-record-nil {p} h = rw (eq-eqb p 65535 h)
-
-pub record-live : {p : ℕ} → p ≢ 65535 → recordOf 65535 p ≡ some p
-record-live {p} h = rw (ne-eqb p 65535 h)
 
 -- The records of the live entries are in use.
 pub live-used : {index keys used : List ℕ} → Sound index keys used → All (λ x. inUse used x ≡ true) (liveRecords (leafList (widthOf index) (herdOf keys used)))
@@ -186,20 +174,3 @@ module _ {index keys used : List ℕ} (s : Sound index keys used) (h : Index) (i
         found-leaf s key narrow position r (subst (λ (n : ℕ). NextPosition n key 0 position) (e ∙ i .width) p)
         (subst (λ (n : ℕ). Descended n key position 0 (rootLevel index) (pagesAt (layoutOf (entriesOf index)) index) (rootOf index) r) (e ∙ i .width)
         (rw (l, i .entries, i .root) at d))
-
--- What the answer of the search says of the pointer.
-pub dummy-pointer : (a : LeafAnswer) (p : ℕ) → a ≡ answerOf p → a ≡ Dummy → p ≡ 65535
-dummy-pointer a p e q = go (eqb p 65535) refl e
-  where
-    go : (t : Bool) → eqb p 65535 ≡ t → a ≡ cond t Dummy (Live (record { 0 = p })) → p ≡ 65535
-    go true h e = eqb-true p 65535 h
-    go false h e = absurd (let z : _≡_ {A = ℕ} 0 1 = cc in omega arith)
-
-pub live-pointer : (a : LeafAnswer) (p : ℕ) (x : RecordNo) → a ≡ answerOf p → a ≡ Live x → (p ≢ 65535) × (p ≡ x .0)
-live-pointer a p x e q = go (eqb p 65535) refl e
-  where
-    go : (t : Bool) → eqb p 65535 ≡ t → a ≡ cond t Dummy (Live (record { 0 = p })) → (p ≢ 65535) × (p ≡ x .0)
-    go true h e = absurd (let z : _≡_ {A = ℕ} 0 1 = cc in omega arith)
-    go false h e =
-        let same : record { 0 = p } ≡ x = cc in
-        (eqb-false p 65535 h, ap (λ (y : RecordNo). y .0) same)

@@ -8,18 +8,18 @@ use native.Mathlib.Numerals.{add-one}
 use lib.ListN.{length, getD, drop-of-length-le}
 use lib.Seq.{drop-cons}
 use Rattle.leaf_list.specs.Entries.{pointerOf}
+use Rattle.leaf_list.proofs.Lists.{all-at}
 use Rattle.page_tree.specs.Rows.{All, flats}
 use Rattle.page_tree.specs.Tree.{Node, leaves}
 use Rattle.index_table.specs.Layout.{Layout, Ref, Within, layoutOf, pageBytes, refAt}
 use Rattle.index_table.specs.Pages.{pagesAt, nodeAt, recordOf}
 use Rattle.index_table.specs.Soundness.{SoundBelow}
 use Rattle.index_table.proofs.PageBytes.{within-table}
-use Rattle.leaf_list.proofs.Lists.{all-at}
+use Rattle.index_table.proofs.Pointers.{record-live}
 use Rattle.table_search.proofs.Stops.{read-entry}
 use Rattle.table_search.proofs.Descents.{leaves-at}
 use Rattle.table_calls.specs.declared.list.Listing.{Listing}
 use Rattle.table_calls.specs.Listings.{State, visited, visitAll, leavesRight, Inside, VisitPre, RowPre, RowListed}
-use Rattle.table_calls.proofs.FoundLeaves.{record-live}
 use Rattle.table_calls.proofs.Visits.{visit-over}
 
 -- ---- what a page gives

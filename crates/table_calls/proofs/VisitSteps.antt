@@ -8,9 +8,9 @@ use lib.ListN.{length, set}
 use borrow.Author.Tests.{lt-ltb, le-ltb}
 use Rattle.leaf_list.specs.Register.{keyAt}
 use Rattle.index_table.specs.Pages.{recordOf}
+use Rattle.index_table.proofs.Pointers.{record-nil, record-live}
 use Rattle.table_calls.specs.declared.list.Listing.{Listing}
 use Rattle.table_calls.specs.Listings.{going, ended, full, met, visited, VisitPre}
-use Rattle.table_calls.proofs.FoundLeaves.{record-nil, record-live}
 
 module _ (keys : List ℕ) (a b : ℕ) (out : List ℕ) (l : Listing) (stored : ℕ) (pre : VisitPre keys stored l) where
   -- A dummy is passed.

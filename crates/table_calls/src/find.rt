@@ -11,19 +11,13 @@ use crate::answer::Answer;
 use index_table::header::Index;
 use table_search::Leaf;
 
-pub fn wide(x: u8) -> u64
-    ensures { λ r. ⌜ r ≡ x ⌝ }
-{
-    x as u64
-}
-
 // The entry on level 0 at which the search for a key ends.
 pub fn leaf_of(index: &[u8], keys: &[u64], used: &[u8], key: u64) -> Leaf
     requires { ⌜ Sound (now index) (now keys) (now used) × (key < 2 ^ widthOf (now index)) ⌝ }
     ensures { λ r. ⌜ FoundLeaf (now (index .entry)) (now (keys .entry)) (now (used .entry)) key r ⌝ }
 {
     let h = index_table::header::read(index);
-    let w = wide(h.width);
+    let w = index_table::layout::deep(h.width);
     let e = h.entries;
     let level = index_table::layout::level(index, e, h.root);
     let position = table_search::next_position(w, key, 0);

@@ -176,7 +176,7 @@ pub fn list_held(index: &[u8], keys: &[u64], used: &[u8], a: u64, b: u64, out: &
     ensures { λ r. ⌜ Listed a b (herdOf (now (keys .entry)) (now (used .entry))) (now (out .entry)) r (now (out .exit)) ⌝ }
 {
     let h = index_table::header::read(index);
-    let w = crate::find::wide(h.width);
+    let w = index_table::layout::deep(h.width);
     let e = h.entries;
     let level = index_table::layout::level(index, e, h.root);
     let position = table_search::next_position(w, a, 0);

@@ -22,12 +22,12 @@ use Rattle.index_table.specs.Layout.{layoutOf}
 use Rattle.index_table.specs.Header.{widthOf, entriesOf, pagesOf, rootOf, heldOf, withRoot, withHeld, HeaderFrom}
 use Rattle.index_table.specs.Pages.{pagesAt, numberedTreeAt}
 use Rattle.index_table.specs.Soundness.{Sound, SoundPages, rootLevel, treeOf, numberedTreeOf}
-use Rattle.index_table.specs.Standing.{TreeTable}
-use Rattle.index_table.specs.Storing.{newLeaves}
 use Rattle.index_table.proofs.SoundTables.{header-long, leaf-depths}
+use Rattle.index_write.specs.Standing.{TreeTable}
+use Rattle.index_write.specs.Storing.{newLeaves}
 use Rattle.table_search.specs.declared.Leaf.{Leaf}
-use Rattle.table_change.specs.Changes.{treeAfterOn, OnDone, OffDone}
 use Rattle.index_change.specs.Repaging.{Repaged, OnPages, treeWith, numberedWith}
+use Rattle.table_change.specs.Changes.{treeAfterOn, OnDone, OffDone}
 use Rattle.table_change.specs.News.{NewsFor, NewKey}
 use Rattle.table_change.specs.FoundKeys.{HeldKey}
 use Rattle.table_change.proofs.Rerooted.{after-length, after-header, after-sound, after-tree}

@@ -29,19 +29,19 @@ use Rattle.index_table.specs.Header.{widthOf}
 use Rattle.index_table.specs.Pages.{leafOf}
 use Rattle.index_table.specs.Soundness.{Sound, treeOf}
 use Rattle.index_table.proofs.SoundTables.{herd-narrow, herd-sorted, herd-keys, keys-narrow}
-use Rattle.index_table.proofs.LoadedRows.{row-with}
+use Rattle.index_write.proofs.LoadedRows.{row-with}
 use Rattle.table_search.specs.declared.Leaf.{Leaf}
 use Rattle.table_calls.specs.declared.answer.Answer.{Answer}
 use Rattle.table_calls.specs.Answers.{plain, withRecord, found}
 use Rattle.table_calls.specs.Places.{FoundLeaf}
 use Rattle.table_calls.proofs.FoundLeaves.{dummy-absent, other-absent, live-found, live-inside}
-use Rattle.table_change.specs.Changes.{isSome, isHeld}
 use Rattle.new_entries.specs.Entries.{entriesIn, entryOf, refsFor, FoundPre, NewEntries}
 use Rattle.new_entries.specs.declared.entries.News.{News}
-use Rattle.table_change.specs.News.{keyIs, NewsFor}
-use Rattle.index_change.specs.Repaging.{foundFor}
-use Rattle.table_change.specs.FoundKeys.{rowFor}
 use Rattle.new_entries.proofs.NewLeaves.{news-read, news-fit}
+use Rattle.index_change.specs.Repaging.{foundFor}
+use Rattle.table_change.specs.Changes.{isSome, isHeld}
+use Rattle.table_change.specs.News.{keyIs, NewsFor}
+use Rattle.table_change.specs.FoundKeys.{rowFor}
 use Rattle.table_change.proofs.SoundAfter.{herd-tree}
 
 -- ---- an entry of a list whose entries have a property

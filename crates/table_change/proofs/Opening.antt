@@ -12,30 +12,30 @@ use Rattle.index_table.specs.Layout.{layoutOf, Within, pageBytes, levelOf, rowP
 use Rattle.index_table.specs.Header.{widthOf, entriesOf, pagesOf, rootOf, heldOf, withRoot, withHeld}
 use Rattle.index_table.specs.Pages.{pagesAt}
 use Rattle.index_table.specs.Soundness.{SizedPage, rootLevel}
-use Rattle.index_table.specs.Standing.{TreeTable}
-use Rattle.index_table.specs.Storing.{splicedAt}
 use Rattle.index_table.proofs.NumberLaws.{Bytes}
 use Rattle.index_table.proofs.PageBytes.{within-table}
 use Rattle.index_table.proofs.PageRows.{refs-fit}
-use Rattle.index_table.proofs.HeaderLaws.{root-kept}
-use Rattle.index_table.proofs.LoadedRows.{row-with}
 use Rattle.index_table.proofs.SoundTables.{header-long}
+use Rattle.index_write.specs.Standing.{TreeTable}
+use Rattle.index_write.specs.Storing.{splicedAt}
+use Rattle.index_write.proofs.HeaderLaws.{root-kept}
+use Rattle.index_write.proofs.LoadedRows.{row-with}
 use Rattle.table_search.specs.declared.Leaf.{Leaf}
 use Rattle.table_search.proofs.WayEnds.{way-end}
 use Rattle.table_calls.specs.Places.{FoundLeaf}
 use Rattle.table_insert.proofs.Puttings.{root-descend}
 use Rattle.table_insert.proofs.FittingRows.{opened, fitting-low, fitting-put}
-use Rattle.table_change.specs.Changes.{onRowOf, OnDone}
 use Rattle.new_entries.specs.declared.entries.News.{News}
 use Rattle.new_entries.specs.Entries.{refsFor, Newly}
-use Rattle.table_change.specs.News.{FreeRecord, NewKey}
+use Rattle.new_entries.proofs.NewLeaves.{news-long}
 use Rattle.index_change.specs.Repaging.{Roomy, OnPages, roomFor, OpenPre, openedWith}
+use Rattle.index_change.proofs.Repaged.{putting, pages-put}
+use Rattle.table_change.specs.Changes.{onRowOf, OnDone}
+use Rattle.table_change.specs.News.{FreeRecord, NewKey}
 use Rattle.table_change.specs.FoundKeys.{rowFor, FoundKey, FittingKey}
 use Rattle.table_change.proofs.Changed.{held-high, tree-table, on-entered}
-use Rattle.index_change.proofs.Repaged.{putting, pages-put}
 use Rattle.table_change.proofs.RowChoice.{splice-pre, roomy-late}
 use Rattle.table_change.proofs.Entering.{late-row-is}
-use Rattle.new_entries.proofs.NewLeaves.{news-long}
 
 -- The page found is a page of level 0.
 module _ {index keys used : List ℕ} {key r : ℕ} (h : FreeRecord index keys used key r) {leaf : Leaf} (found : FoundLeaf index keys used key leaf) where

@@ -4,14 +4,14 @@ use mathlib.Core.List.{List}
 use Prim.Native.Nat.{ℕ, suc, _≤_, _<_}
 use native.Mathlib.Omega.{arith}
 use lib.ListN.{length, take}
+use Rattle.byte_moves.proofs.OverLaws.{length-over}
 use Rattle.index_table.specs.Layout.{Layout, layoutOf, pageBytes, levelOf, refsOf}
 use Rattle.index_table.specs.Header.{entriesOf, pagesOf, rootOf, withRoot, withHeld, HeaderFrom}
 use Rattle.index_table.specs.Bytes.{bytesOf}
 use Rattle.index_table.specs.Pages.{pagesAt, inUse, rootRef, numberedTreeAt}
 use Rattle.index_table.specs.Soundness.{SoundPages, rootLevel, numberedTreeOf}
 use Rattle.index_table.proofs.Frames.{Unchanged, unchanged}
-use Rattle.index_table.proofs.HeaderLaws.{front-header, root-header, held-header, root-pages, held-pages}
-use Rattle.index_table.proofs.ListLaws.{length-over}
+use Rattle.index_write.proofs.HeaderLaws.{front-header, root-header, held-header, root-pages, held-pages}
 
 -- Where all pages keep their bytes, sound pages stay sound and read as before.
 module _ (L : Layout) (b b′ : List ℕ) (same : (q : ℕ) → pageBytes L b′ q ≡ pageBytes L b q) (level root : ℕ) where

@@ -9,7 +9,7 @@ use Rattle.leaf_list.specs.Register.{herdOf}
 use Rattle.page_tree.specs.declared.Row.{Row}
 use Rattle.index_table.specs.Header.{widthOf}
 use Rattle.index_table.specs.Soundness.{Sound}
-use Rattle.index_table.specs.Storing.{rowWith}
+use Rattle.index_write.specs.Storing.{rowWith}
 use Rattle.table_search.specs.declared.Leaf.{Leaf}
 use Rattle.table_calls.specs.Places.{FoundLeaf}
 use Rattle.new_entries.specs.declared.entries.News.{News}

@@ -10,16 +10,16 @@ use Rattle.index_table.specs.Layout.{layoutOf, Ref, Within, pageBytes, refAt}
 use Rattle.index_table.specs.Pages.{pagesAt}
 use Rattle.index_table.proofs.NumberLaws.{Bytes}
 use Rattle.index_table.proofs.PageRows.{refs-fit}
-use Rattle.index_table.proofs.WholePages.{cleared-whole}
+use Rattle.page_change.proofs.WholePages.{cleared-whole}
 use Rattle.table_search.specs.declared.Spot.{Spot}
 use Rattle.table_search.specs.Places.{SeekPre, Stopped}
 use Rattle.table_search.proofs.Stops.{read-entry}
 use Rattle.table_search.proofs.Descents.{descend-within, descend-inside}
-use Rattle.tree_delete.specs.Removing.{followingAt, AfterPre}
 use Rattle.page_delete.specs.OnePage.{GivePre, DummyPost}
-use Rattle.table_delete.specs.Blanking.{BlankPre, BlankPost}
+use Rattle.tree_delete.specs.Removing.{followingAt, AfterPre}
 use Rattle.tree_delete.proofs.FoundPlaces.{found-down}
 use Rattle.tree_delete.proofs.Removals.{remove-descend, locate-seek, locate-after}
+use Rattle.table_delete.specs.Blanking.{BlankPre, BlankPost}
 use Rattle.table_delete.proofs.QuietWays.{quiet-up, next-leaf, quiet-leaf}
 
 module _ {e P n : ℕ} {b : List ℕ} {x : Ref} {w key position : ℕ} (h : BlankPre e P (suc n) b x w key position) where

@@ -10,19 +10,19 @@ use Rattle.page_tree.specs.Rows.{All, sum}
 use Rattle.page_tree.specs.Numbered.{Numbered, lowerNumbered}
 use Rattle.index_table.specs.Layout.{Layout, layoutOf, Ref, Within, pageSize, pageBytes, countOf, refAt, refsOf, store}
 use Rattle.index_table.specs.Pages.{pagesAt, numberedAt, same, met, inUse, rootRef}
-use Rattle.index_table.specs.Standing.{Owned}
 use Rattle.index_table.specs.declared.layout.PageNo.{PageNo}
 use Rattle.index_table.specs.declared.layout.Root.{Root}
 use Rattle.index_table.proofs.PageBytes.{within-table}
 use Rattle.index_table.proofs.PageRows.{length-refs, drop-refs}
 use Rattle.index_table.proofs.PageCounts.{same-self, same-cases}
 use Rattle.index_table.proofs.Frames.{Keeps, Unchanged, unchanged}
+use Rattle.index_write.specs.Standing.{Owned}
 use Rattle.tree_delete.specs.Keeping.{numbersAt, Linked}
 use Rattle.tree_delete.specs.Rows.{settled}
-use Rattle.table_delete.specs.Taking.{LowerPre, LowerPost}
 use Rattle.tree_delete.proofs.Frames.{linked-stays}
 use Rattle.tree_delete.proofs.Settling.{settled-other, settled-refs, settled-cleared, settled-long, settled-front}
 use Rattle.tree_delete.proofs.SweepTurns.{paged-then}
+use Rattle.table_delete.specs.Taking.{LowerPre, LowerPost}
 
 -- The root page stands in the table.
 pub lower-within : {e P n : ℕ} {b : List ℕ} {p : ℕ} → LowerPre e P n b p → Within (layoutOf e) b p

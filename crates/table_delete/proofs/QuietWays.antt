@@ -14,18 +14,17 @@ use Rattle.page_tree.proofs.ListLaws.{all-left}
 use Rattle.index_table.specs.Layout.{Layout, layoutOf, Ref, Within, pageBytes, refsOf, store}
 use Rattle.index_table.specs.Pages.{Pages, pagesAt, nodeAt, numberedAt, same, met, metAll}
 use Rattle.index_table.specs.Soundness.{SizedPage}
-use Rattle.index_table.specs.Standing.{Owned}
 use Rattle.index_table.proofs.PageCounts.{same-self}
 use Rattle.index_table.proofs.Frames.{UnchangedRow}
+use Rattle.index_write.specs.Standing.{Owned}
 use Rattle.table_search.specs.declared.Spot.{Spot}
 use Rattle.table_search.specs.declared.Leaf.{Leaf}
 use Rattle.table_search.specs.Places.{leftFrom, Stopped, Way}
 use Rattle.table_search.proofs.Descents.{descend-within}
+use Rattle.page_delete.specs.OnePage.{Calm, leafRow, NearDone, StruckNear}
 use Rattle.tree_delete.specs.Keeping.{numbersAt, Linked, Kept}
 use Rattle.tree_delete.specs.Rows.{settled, entryFor}
 use Rattle.tree_delete.specs.Removing.{followingAt, RemovePre}
-use Rattle.page_delete.specs.OnePage.{Calm, leafRow, NearDone, StruckNear}
-use Rattle.table_delete.specs.Blanking.{Quiet}
 use Rattle.tree_delete.proofs.CalmRows.{askedPast, past-calm, kept-some, calm-row}
 use Rattle.tree_delete.proofs.Frames.{kept-at, before-stays, after-stays}
 use Rattle.tree_delete.proofs.RowChanges.{page-some, entry-some}
@@ -34,6 +33,7 @@ use Rattle.tree_delete.proofs.Sweeps.{none-met}
 use Rattle.tree_delete.proofs.SweepTurns.{met-mid}
 use Rattle.tree_delete.proofs.FoundPlaces.{found-parted, found-linked, found-owned, found-down, found-strike}
 use Rattle.tree_delete.proofs.Removals.{remove-descend}
+use Rattle.table_delete.specs.Blanking.{Quiet}
 
 module _ {e P n : ℕ} {b : List ℕ} {x : Ref} {w key position τ : ℕ} (h : RemovePre e P (suc n) b x w key position) (s : Spot) (a : Stopped w key position τ (pagesAt (layoutOf e) b (x .1)) s) where
   abbrev L : Layout

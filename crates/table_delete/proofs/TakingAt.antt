@@ -15,13 +15,13 @@ use Rattle.index_table.specs.declared.layout.Root.{Root}
 use Rattle.index_table.proofs.NumberLaws.{Bytes}
 use Rattle.index_table.proofs.PageBytes.{within-table}
 use Rattle.index_table.proofs.PageRows.{length-refs, refs-fit}
-use Rattle.index_table.proofs.WholePages.{cleared-whole}
+use Rattle.page_change.proofs.WholePages.{cleared-whole}
 use Rattle.table_search.specs.declared.Leaf.{Leaf}
 use Rattle.table_search.specs.Places.{leftFrom, NextPosition}
+use Rattle.page_delete.specs.OnePage.{NearPre, StruckNear}
 use Rattle.tree_delete.specs.declared.entries.Remnant.{Remnant}
 use Rattle.tree_delete.specs.Removing.{RemovePre, RemovePost}
 use Rattle.table_delete.specs.Taking.{LowerPre, LowerPost, TakePre, TakeAtPre, TakePost}
-use Rattle.page_delete.specs.OnePage.{NearPre, StruckNear}
 use Rattle.table_delete.specs.Blanking.{Quiet, BlankPre}
 use Rattle.table_delete.proofs.Lowering.{lower-leaf, lower-stop}
 use Rattle.table_delete.proofs.QuietWays.{LeafPage, way-page, way-quiet}

@@ -12,8 +12,8 @@ use Rattle.page_tree.specs.Numbered.{lowerNumbered, deleteNumbered, rootedNumbe
 use Rattle.index_table.specs.Layout.{layoutOf, pageBytes}
 use Rattle.index_table.specs.Pages.{pagesAt, met, inUse, numberedAt, rootRef, treeAt, numberedTreeAt}
 use Rattle.index_table.specs.Soundness.{SizedPage, SoundPages, Cleared}
-use Rattle.index_table.specs.Standing.{TreeTable, Owned}
 use Rattle.index_table.specs.declared.layout.Root.{Root}
+use Rattle.index_write.specs.Standing.{TreeTable, Owned}
 use Rattle.table_search.specs.declared.Leaf.{Leaf}
 use Rattle.table_search.specs.Places.{NextPosition, Way}
 use Rattle.tree_delete.specs.Keeping.{numbersAt, Linked, Paged}

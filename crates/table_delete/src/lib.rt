@@ -8,7 +8,7 @@ use index_table::layout::PageNo;
 use index_table::layout::Root;
 use index_table::layout::child;
 use index_table::layout::count;
-use index_table::write::free_page;
+use index_write::write::free_page;
 use page_delete::strike_near;
 use table_search::Leaf;
 use table_search::next_position;

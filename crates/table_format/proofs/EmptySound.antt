@@ -14,17 +14,18 @@ use Rattle.leaf_list.specs.LeafList.{leafList}
 use Rattle.leaf_list.specs.Register.{keyAt, herdFrom, herdOf, countInUse}
 use Rattle.leaf_list.proofs.Literal.{twin}
 use Rattle.page_tree.specs.Tree.{leavesOf, leaves as leaves-of}
-use Rattle.index_table.specs.Bytes.{over, AllZero}
+use Rattle.byte_moves.specs.Over.{over}
+use Rattle.byte_moves.proofs.OverLaws.{over-append, length-over}
+use Rattle.index_table.specs.Bytes.{AllZero}
 use Rattle.index_table.specs.Layout.{Ref, layoutOf, pageSize, pageStart, pageBytes, levelOf, refsOf, Within, Fitting, rowPage, store}
 use Rattle.index_table.specs.Header.{widthOf, rootOf, heldOf, headerBytes, HeaderFrom}
 use Rattle.index_table.specs.Pages.{pagesAt, nodeAt, met, metAll, same, inUse, treeAt}
 use Rattle.index_table.specs.Soundness.{Limits, SoundRegister, Cleared, SoundPages, Sound}
-use Rattle.index_table.proofs.HeaderLaws.{HeaderIs, length-header, header-written, store-header, page-behind}
-use Rattle.index_table.proofs.ListLaws.{over-append, length-over}
 use Rattle.index_table.proofs.PageBytes.{within-table, page-stored, other-page, length-store}
 use Rattle.index_table.proofs.PageRows.{length-page-of}
 use Rattle.index_table.proofs.Frames.{stored-refs}
-use Rattle.index_table.proofs.StoredRows.{all-zeros, zeros-all, zeros-refs, zeros-cleared, HeadOf, row-page-head, page-of-cleared, stored-node, stored-meets, stored-sound}
+use Rattle.index_write.proofs.HeaderLaws.{HeaderIs, length-header, header-written, store-header, page-behind}
+use Rattle.index_write.proofs.StoredRows.{all-zeros, zeros-all, zeros-refs, zeros-cleared, HeadOf, row-page-head, page-of-cleared, stored-node, stored-meets, stored-sound}
 use Rattle.table_calls.specs.declared.answer.Answer.{Answer}
 use Rattle.table_format.specs.Format.{formatFits, emptyTable, FormatDoes}
 use Rattle.table_format.proofs.EmptyTables.{over-zeros}

@@ -7,11 +7,12 @@ use native.Mathlib.Nat.{suc-mul}
 use native.Mathlib.Numerals.{add-one}
 use lib.ListN.{length, take, drop, set, replicate, length-append, length-replicate, replicate-append-replicate, drop-of-length-le}
 use lib.Seq.{sets-eq, take-suc-set, take-all}
-use Rattle.index_table.specs.Bytes.{bytesOf, over}
+use Rattle.byte_moves.specs.Over.{over}
+use Rattle.byte_moves.proofs.OverLaws.{over-append, over-one}
+use Rattle.index_table.specs.Bytes.{bytesOf}
 use Rattle.index_table.specs.Layout.{layoutOf, pageSize, rowPage, pageOf, rowBytes, refBytes}
 use Rattle.index_table.specs.Header.{headerBytes}
-use Rattle.index_table.proofs.HeaderLaws.{length-header}
-use Rattle.index_table.proofs.ListLaws.{over-append, over-one}
+use Rattle.index_write.proofs.HeaderLaws.{length-header}
 use Rattle.table_format.specs.Format.{emptyTable, EmptyPre}
 
 -- A list written over a whole one of its length.

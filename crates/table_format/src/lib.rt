@@ -59,11 +59,11 @@ fn make_empty(index: &mut [u8], w: u8, e: u8, p: u16)
     ensures { λ r. ⌜ now (index .exit) ≡ emptyTable w e p ⌝ }
 {
     let n = index.len();
-    index_table::write::clear(index, 0, n);
-    index_table::write::write_header(index, w, e, p, PageNo(0), 0);
+    index_write::write::clear(index, 0, n);
+    index_write::write::write_header(index, w, e, p, PageNo(0), 0);
     index[16] = 0;
     index[17] = 1;
-    index_table::write::write_entry(index, 18, 0, 65535);
+    index_write::write::write_entry(index, 18, 0, 65535);
 }
 
 // The tables for an empty herd of keys of w bits, in p pages of e entries.
@@ -76,6 +76,6 @@ pub fn format(index: &mut [u8], keys: &mut [u64], used: &mut [u8], w: u64, e: u6
     make_empty(index, w as u8, e as u8, p as u16);
     clear_keys(keys);
     let n = used.len();
-    index_table::write::clear(used, 0, n);
+    index_write::write::clear(used, 0, n);
     Answer::plain(0)
 }

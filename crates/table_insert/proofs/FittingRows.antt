@@ -19,13 +19,13 @@ use Rattle.page_tree.proofs.InsertionPages.{insertTree-pages}
 use Rattle.page_tree.proofs.RowLaws.{Full}
 use Rattle.index_table.specs.Layout.{Layout, layoutOf, Ref, Fitting, rowPage, store}
 use Rattle.index_table.specs.Pages.{pagesAt, leafOf, nodeAt, treeAt}
-use Rattle.index_table.specs.Standing.{TreeTable}
-use Rattle.index_table.specs.Storing.{newLeaves, splicedAt, rowWith}
 use Rattle.index_table.proofs.PageBytes.{within-table}
 use Rattle.index_table.proofs.Frames.{stored-refs}
-use Rattle.index_table.proofs.LoadedRows.{row-with}
 use Rattle.index_table.proofs.SoundNodes.{sound-depths}
 use Rattle.index_table.proofs.UsedPages.{used-tree, used-few}
+use Rattle.index_write.specs.Standing.{TreeTable}
+use Rattle.index_write.specs.Storing.{newLeaves, splicedAt, rowWith}
+use Rattle.index_write.proofs.LoadedRows.{row-with}
 use Rattle.table_search.specs.declared.Leaf.{Leaf}
 use Rattle.table_search.specs.declared.Spot.{Spot}
 use Rattle.table_search.specs.Places.{leftFrom, NextPosition, Stopped, DescendPre, Way}

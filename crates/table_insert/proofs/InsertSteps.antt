@@ -23,12 +23,12 @@ use Rattle.page_tree.proofs.RowMaps.{parts-map}
 use Rattle.index_table.specs.Layout.{Layout, layoutOf, Ref, pageStart, pageBytes, refsOf, Fitting}
 use Rattle.index_table.specs.Pages.{pagesAt, nodeAt, numberedAt, same, met, metAll, inUse, usedPages}
 use Rattle.index_table.specs.Soundness.{SoundBelow}
-use Rattle.index_table.specs.Standing.{Owned, Stands}
-use Rattle.index_table.specs.Storing.{splicedAt, Spliceable}
 use Rattle.index_table.proofs.PageBytes.{within-table}
 use Rattle.index_table.proofs.PageCounts.{same-self, same-cases}
-use Rattle.index_table.proofs.StandingLaws.{stands-at, before-stays, after-stays}
 use Rattle.index_table.proofs.NumberedPages.{numbered-aside}
+use Rattle.index_write.specs.Standing.{Owned, Stands}
+use Rattle.index_write.specs.Storing.{splicedAt, Spliceable}
+use Rattle.index_write.proofs.StandingLaws.{stands-at, before-stays, after-stays}
 use Rattle.table_search.specs.declared.Spot.{Spot}
 use Rattle.table_search.specs.Places.{leftFrom, Stopped, DescendPre}
 use Rattle.table_search.proofs.Descents.{descend-walk}

@@ -19,8 +19,8 @@ use Rattle.page_tree.proofs.ListLaws.{all-unit}
 use Rattle.index_table.specs.Layout.{layoutOf, Ref, pageBytes, countOf, refAt, Fitting}
 use Rattle.index_table.specs.Pages.{Pages, pagesAt, nodeAt, numberedAt, met, metAll}
 use Rattle.index_table.specs.Soundness.{SoundBelow}
-use Rattle.index_table.specs.Storing.{newLeaves, splicedAt, Spliceable}
 use Rattle.index_table.proofs.PageRows.{length-refs}
+use Rattle.index_write.specs.Storing.{newLeaves, splicedAt, Spliceable}
 use Rattle.table_search.specs.declared.Spot.{Spot}
 use Rattle.table_search.specs.Places.{leftFrom, Stopped, DescendPre}
 use Rattle.table_search.proofs.Stops.{read-entry}

@@ -18,8 +18,8 @@ use Rattle.page_tree.proofs.RowLaws.{Full, full-set, length-zip, length-row, st
 use Rattle.page_tree.proofs.RowCuts.{Part, cuts-part, part-last}
 use Rattle.index_table.specs.Layout.{layoutOf, Ref, pageStart, Fitting, rowPage, store}
 use Rattle.index_table.specs.Pages.{pagesAt, inUse, usedPages}
-use Rattle.index_table.specs.Storing.{Storable}
 use Rattle.index_table.proofs.PageBytes.{within-table}
+use Rattle.index_write.specs.Storing.{Storable}
 use Rattle.table_insert.specs.Placing.{Placed, PlacePre, PlacePost, PartPre, PartPost}
 use Rattle.table_insert.proofs.PlacedRows.{PlacedFree, free-none, free-more, own-then-free, one-total, one-long}
 

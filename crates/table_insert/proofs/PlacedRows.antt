@@ -16,8 +16,8 @@ use Rattle.index_table.proofs.PageBytes.{within-table, length-store, front-stor
 use Rattle.index_table.proofs.PageCounts.{same-self, same-cases}
 use Rattle.index_table.proofs.PageRows.{length-page-of}
 use Rattle.index_table.proofs.Frames.{stored-refs}
-use Rattle.index_table.proofs.StoredRows.{row-page-head, page-of-level, page-of-cleared}
 use Rattle.index_table.proofs.UsedPages.{used-store}
+use Rattle.index_write.proofs.StoredRows.{row-page-head, page-of-level, page-of-cleared}
 use Rattle.table_insert.specs.Placing.{Each, Holding, owned, Placed}
 
 -- ---- lists element by element

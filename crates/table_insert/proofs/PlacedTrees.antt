@@ -16,10 +16,10 @@ use Rattle.page_tree.proofs.RowMaps.{parts-map}
 use Rattle.index_table.specs.Layout.{Layout, layoutOf, Ref, Fitting}
 use Rattle.index_table.specs.Pages.{pagesAt, nodeAt, numberedAt, same, met, metAll}
 use Rattle.index_table.specs.Soundness.{SoundBelow}
-use Rattle.index_table.specs.Standing.{Owned, Stands}
 use Rattle.index_table.proofs.Frames.{UnchangedRow, unchanged-row}
 use Rattle.index_table.proofs.SoundNodes.{sound-depths}
 use Rattle.index_table.proofs.NumberedPages.{numbered-aside}
+use Rattle.index_write.specs.Standing.{Owned, Stands}
 use Rattle.table_insert.specs.Placing.{Each, Holding, owned, Placed}
 
 -- What a sound entry stands for, with page numbers, has the entry's depth.

@@ -23,21 +23,21 @@ use Rattle.page_tree.proofs.ClosedRows.{closed-nonempty, closed-last}
 use Rattle.page_tree.proofs.RowMaps.{closed-map}
 use Rattle.page_tree.proofs.InsertionPages.{insertBelow-pages, insertTree-pages}
 use Rattle.page_tree.proofs.InsertionSound.{Fits, insertTree-root}
+use Rattle.page_tree.proofs.NumberedLaws.{insert-aside, insertTree-aside}
 use Rattle.index_table.specs.Layout.{Layout, layoutOf}
 use Rattle.index_table.specs.Pages.{pagesAt, leafOf, nodeAt, numberedAt, treeAt, numberedTreeAt, rootRef, met, metAll, inUse, usedPages}
 use Rattle.index_table.specs.Soundness.{SoundBelow}
-use Rattle.index_table.specs.Standing.{TreeTable, Owned}
 use Rattle.index_table.specs.declared.layout.Root.{Root}
-use Rattle.index_table.specs.Storing.{newLeaves}
 use Rattle.index_table.proofs.SoundNodes.{sound-tree, tree-root-rule, tree-depth}
 use Rattle.index_table.proofs.NumberedPages.{numbered-aside, numbereds-aside, tree-aside}
 use Rattle.index_table.proofs.UsedPages.{used-tree}
-use Rattle.index_table.proofs.StandingLaws.{stands-owned}
+use Rattle.index_write.specs.Standing.{TreeTable, Owned}
+use Rattle.index_write.specs.Storing.{newLeaves}
+use Rattle.index_write.proofs.StandingLaws.{stands-owned}
 use Rattle.table_search.specs.Places.{leftFrom, NextPosition, DescendPre}
 use Rattle.table_insert.specs.Inserting.{pageRef, Replaced, InsertPre}
 use Rattle.table_insert.specs.NewRoots.{rootsAt, GrowPre, GrowPost}
 use Rattle.table_insert.specs.Putting.{PutPre, PutPost}
-use Rattle.page_tree.proofs.NumberedLaws.{insert-aside, insertTree-aside}
 use Rattle.table_insert.proofs.NumberedInsertion.{same-depths, insertNumbered-ext}
 use Rattle.table_insert.proofs.NumberedGrowth.{growNumbered-ext}
 use Rattle.table_insert.proofs.InsertSteps.{still-free}

@@ -21,19 +21,19 @@ use Rattle.page_tree.proofs.CuttingLaws.{cut-join, cut-few}
 use Rattle.page_tree.proofs.RowMaps.{parts-map}
 use Rattle.page_tree.proofs.RowLaws.{Full, length-zip, place-at}
 use Rattle.page_tree.proofs.Growing.{parts-fewer, rootParts, grown-again, grow-pages}
+use Rattle.page_tree.proofs.NumberedLaws.{under-aside}
 use Rattle.index_table.specs.Layout.{Layout, layoutOf, Ref, pageStart, Fitting}
 use Rattle.index_table.specs.Pages.{pagesAt, nodeAt, numberedAt, numberedTreeAt, same, metAll, usedPages}
 use Rattle.index_table.specs.Soundness.{SoundBelow}
-use Rattle.index_table.specs.Standing.{Owned, Stands}
 use Rattle.index_table.specs.declared.layout.Root.{Root}
 use Rattle.index_table.proofs.PageCounts.{same-cases}
 use Rattle.index_table.proofs.SoundNodes.{sound-depths}
 use Rattle.index_table.proofs.NumberedPages.{numbereds-aside}
-use Rattle.index_table.proofs.StandingLaws.{stands-none, stands-owned}
+use Rattle.index_write.specs.Standing.{Owned, Stands}
+use Rattle.index_write.proofs.StandingLaws.{stands-none, stands-owned}
 use Rattle.table_insert.specs.Placing.{owned, PlacePre, PlacePost}
 use Rattle.table_insert.specs.NewRoots.{rootsAt, GrowPre, GrowPost}
 use Rattle.table_insert.proofs.PlacedTrees.{placed-closed, placed-fits, placed-stands, placed-numbered}
-use Rattle.page_tree.proofs.NumberedLaws.{under-aside}
 use Rattle.table_insert.proofs.NumberedInsertion.{same-depths}
 use Rattle.table_insert.proofs.NumberedGrowth.{grow-level, growNumbered-ext, grownNumbered-again}
 use Rattle.table_insert.proofs.InsertSteps.{still-free, withLevel, withLevel-free}

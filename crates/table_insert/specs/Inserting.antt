@@ -12,8 +12,8 @@ use Rattle.page_tree.specs.Row.{depthOf, rowOf}
 use Rattle.page_tree.specs.declared.Row.{Row}
 use Rattle.index_table.specs.Layout.{layoutOf, Ref, Within, Fitting}
 use Rattle.index_table.specs.Pages.{pagesAt, nodeAt, numberedAt, met, inUse, usedPages}
-use Rattle.index_table.specs.Standing.{Owned, Stands}
-use Rattle.index_table.specs.Storing.{newLeaves}
+use Rattle.index_write.specs.Standing.{Owned, Stands}
+use Rattle.index_write.specs.Storing.{newLeaves}
 use Rattle.table_search.specs.Places.{leftFrom, DescendPre}
 
 -- The page as an entry, with the depth that closes it.

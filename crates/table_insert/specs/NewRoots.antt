@@ -12,8 +12,8 @@ use Rattle.page_tree.specs.declared.Row.{Row}
 use Rattle.index_table.specs.Layout.{layoutOf, Ref, pageStart, Fitting}
 use Rattle.index_table.specs.Pages.{Pages, pagesAt, nodeAt, numberedAt, numberedTreeAt, metAll, inUse, usedPages}
 use Rattle.index_table.specs.Soundness.{SoundBelow}
-use Rattle.index_table.specs.Standing.{Owned, Stands}
 use Rattle.index_table.specs.declared.layout.Root.{Root}
+use Rattle.index_write.specs.Standing.{Owned, Stands}
 
 -- The pages that entries above level n point at.
 abbrev pub rootsAt : (n : ℕ) → Pages → List Ref → List (Node (suc n))

@@ -16,9 +16,9 @@ use Rattle.page_tree.specs.declared.Row.{Row}
 use Rattle.index_table.specs.Layout.{layoutOf, Ref, Fitting}
 use Rattle.index_table.specs.Pages.{pagesAt, treeAt, numberedTreeAt}
 use Rattle.index_table.specs.Soundness.{SoundPages}
-use Rattle.index_table.specs.Standing.{TreeTable}
 use Rattle.index_table.specs.declared.layout.Root.{Root}
-use Rattle.index_table.specs.Storing.{newLeaves}
+use Rattle.index_write.specs.Standing.{TreeTable}
+use Rattle.index_write.specs.Storing.{newLeaves}
 
 -- New entries for a key, closed by the depth of the entry found; the tree with them stands at most on level 15, and its pages are there.
 pub record PutPre (b : List ℕ) (e P level root w key : ℕ) (news : Row) : Type 0 where

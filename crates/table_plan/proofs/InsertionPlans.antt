@@ -15,7 +15,7 @@ use Rattle.page_tree.specs.declared.Row.{Row}
 use Rattle.page_tree.proofs.InsertionPages.{insertBelow-pages}
 use Rattle.index_table.specs.Layout.{layoutOf}
 use Rattle.index_table.specs.Pages.{pagesAt, nodeAt, rootRef}
-use Rattle.index_table.specs.Storing.{newLeaves}
+use Rattle.index_write.specs.Storing.{newLeaves}
 use Rattle.table_search.specs.Places.{leftFrom, NextPosition}
 use Rattle.table_plan.specs.declared.Plan.{Plan}
 use Rattle.table_plan.specs.declared.Outcome.{Outcome}

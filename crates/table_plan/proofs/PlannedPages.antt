@@ -29,8 +29,8 @@ use Rattle.page_tree.proofs.InsertionSound.{Fits, insertBelow-inPlace}
 use Rattle.index_table.specs.Layout.{Ref, layoutOf, pageBytes, refAt}
 use Rattle.index_table.specs.Pages.{pagesAt, leafOf, nodeAt}
 use Rattle.index_table.specs.Soundness.{SoundBelow}
-use Rattle.index_table.specs.Storing.{newLeaves, splicedAt}
 use Rattle.index_table.proofs.SoundNodes.{sound-depth, sound-depths, sound-node}
+use Rattle.index_write.specs.Storing.{newLeaves, splicedAt}
 use Rattle.table_search.specs.declared.Spot.{Spot}
 use Rattle.table_search.specs.Places.{later, leftFrom, Stopped}
 use Rattle.table_search.proofs.Stops.{read-entry}

@@ -14,8 +14,8 @@ use Rattle.page_tree.proofs.CuttingLaws.{cut-fits}
 use Rattle.page_tree.proofs.RowLaws.{Full, length-row}
 use Rattle.index_table.specs.Layout.{Ref, layoutOf, pageBytes, countOf, refAt}
 use Rattle.index_table.specs.Pages.{pagesAt}
-use Rattle.index_table.specs.Storing.{splicedAt, Spliceable}
 use Rattle.index_table.proofs.PageRows.{length-refs}
+use Rattle.index_write.specs.Storing.{splicedAt, Spliceable}
 use Rattle.table_search.proofs.Stops.{read-entry}
 use Rattle.table_plan.specs.Plans.{LastDepths, PartsPre, PartsPost}
 

@@ -13,8 +13,8 @@ use Rattle.page_tree.specs.OnPages.{grown, insertTree}
 use Rattle.page_tree.specs.declared.Row.{Row}
 use Rattle.index_table.specs.Layout.{layoutOf}
 use Rattle.index_table.specs.Pages.{pagesAt, treeAt}
-use Rattle.index_table.specs.Standing.{TreeTable}
-use Rattle.index_table.specs.Storing.{newLeaves}
+use Rattle.index_write.specs.Standing.{TreeTable}
+use Rattle.index_write.specs.Storing.{newLeaves}
 use Rattle.table_plan.specs.declared.Outcome.{Outcome}
 
 -- The parts of a root of a level.

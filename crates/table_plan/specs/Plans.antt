@@ -13,7 +13,7 @@ use Rattle.page_tree.specs.OnPages.{insertBelow, pagesBelow}
 use Rattle.page_tree.specs.declared.Row.{Row}
 use Rattle.index_table.specs.Layout.{Ref, Within, layoutOf}
 use Rattle.index_table.specs.Pages.{pagesAt, nodeAt}
-use Rattle.index_table.specs.Storing.{newLeaves}
+use Rattle.index_write.specs.Storing.{newLeaves}
 use Rattle.table_search.specs.Places.{leftFrom, DescendPre}
 use Rattle.table_plan.specs.declared.Plan.{Plan}
 

@@ -19,9 +19,9 @@ use Rattle.page_tree.proofs.WalkPlaces.{positionsAfter, Stops, strikeIn-at}
 use Rattle.index_table.specs.Layout.{Layout, layoutOf, Ref}
 use Rattle.index_table.specs.Pages.{Pages, pagesAt, nodeAt, numberedAt, metAll}
 use Rattle.index_table.specs.Soundness.{SoundBelow}
-use Rattle.index_table.specs.Standing.{Owned}
 use Rattle.index_table.proofs.SoundNodes.{sound-depth}
 use Rattle.index_table.proofs.NumberedPages.{numbered-aside}
+use Rattle.index_write.specs.Standing.{Owned}
 use Rattle.table_search.specs.declared.Spot.{Spot}
 use Rattle.table_search.specs.Places.{leftFrom, Stopped}
 use Rattle.table_search.proofs.Descents.{leaves-at}

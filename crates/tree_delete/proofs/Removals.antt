@@ -14,8 +14,8 @@ use Rattle.page_tree.specs.OffPages.{Left, sweep, strike, strikeIn}
 use Rattle.page_tree.specs.Numbered.{Numbered, numberedDepth, numberedLeaves, stepNumbered, deleteNumbered}
 use Rattle.index_table.specs.Layout.{Layout, layoutOf, Ref, Within}
 use Rattle.index_table.specs.Pages.{Pages, pagesAt, numberedAt, metAll}
-use Rattle.index_table.specs.Standing.{Owned}
 use Rattle.index_table.proofs.Frames.{UnchangedRow}
+use Rattle.index_write.specs.Standing.{Owned}
 use Rattle.table_search.specs.Places.{leftFrom, SeekPre, Stopped, DescendPre}
 use Rattle.table_search.proofs.Descents.{descend-within, descend-seek}
 use Rattle.tree_delete.specs.declared.entries.Remnant.{Remnant}

@@ -11,7 +11,7 @@ use Rattle.page_tree.specs.Row.{depthOf, rowOf, partOf, Holds}
 use Rattle.page_tree.specs.declared.Row.{Row}
 use Rattle.page_tree.proofs.RowLaws.{part-of-row}
 use Rattle.index_table.specs.Layout.{layoutOf, pageSize, Ref, rowPage, store}
-use Rattle.index_table.specs.Storing.{Storable}
+use Rattle.index_write.specs.Storing.{Storable}
 use Rattle.page_delete.proofs.NearRows.{drop-set}
 use Rattle.tree_delete.specs.declared.entries.Remnant.{Remnant}
 use Rattle.tree_delete.specs.declared.rows.Swept.{Swept}

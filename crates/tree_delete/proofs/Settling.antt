@@ -10,12 +10,12 @@ use Rattle.page_tree.specs.Numbered.{Numbered, keptUnder}
 use Rattle.index_table.specs.Layout.{Layout, layoutOf, Ref, Within, Fitting, pageSize, pageBytes, levelOf, refsOf}
 use Rattle.index_table.specs.Pages.{pagesAt, numberedAt, same, met, metAll, inUse}
 use Rattle.index_table.specs.Soundness.{Cleared}
-use Rattle.index_table.specs.Standing.{Owned}
 use Rattle.index_table.proofs.PageBytes.{page-stored, other-page, length-store, front-store}
 use Rattle.index_table.proofs.PageRows.{length-page-of, refs-page-of}
 use Rattle.index_table.proofs.PageCounts.{same-self, same-cases}
-use Rattle.index_table.proofs.StoredRows.{zeros-refs, zeros-cleared, row-page-head, page-of-level, page-of-cleared}
 use Rattle.index_table.proofs.Frames.{UnchangedRow, unchanged-row, Keeps}
+use Rattle.index_write.specs.Standing.{Owned}
+use Rattle.index_write.proofs.StoredRows.{zeros-refs, zeros-cleared, row-page-head, page-of-level, page-of-cleared}
 use Rattle.tree_delete.specs.Keeping.{numbersAt, Linked, Kept}
 use Rattle.tree_delete.specs.Rows.{settledPage, settled, entryFor}
 use Rattle.tree_delete.proofs.Frames.{linked-row}

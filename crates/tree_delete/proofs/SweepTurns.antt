@@ -16,8 +16,8 @@ use Rattle.page_tree.proofs.ListLaws.{all-left, all-right}
 use Rattle.page_tree.proofs.WalkPlaces.{sweep-append}
 use Rattle.index_table.specs.Layout.{Layout, layoutOf, Ref}
 use Rattle.index_table.specs.Pages.{pagesAt, numberedAt, met, metAll}
-use Rattle.index_table.specs.Standing.{Owned}
 use Rattle.index_table.proofs.Frames.{UnchangedRow}
+use Rattle.index_write.specs.Standing.{Owned}
 use Rattle.tree_delete.specs.declared.entries.Remnant.{Remnant}
 use Rattle.tree_delete.specs.declared.rows.Slot.{Slot}
 use Rattle.tree_delete.specs.Keeping.{numbersAt, Linked, Paged, Kept}

@@ -14,8 +14,8 @@ use Rattle.page_tree.specs.OffPages.{Left, stepEntry, sweep}
 use Rattle.page_tree.specs.Numbered.{Numbered, keptUnder, stepNumbered}
 use Rattle.index_table.specs.Layout.{layoutOf, Ref, Within, Fitting}
 use Rattle.index_table.specs.Pages.{Pages, pagesAt, leafOf, numberedAt, met, metAll}
-use Rattle.index_table.specs.Standing.{Owned}
 use Rattle.index_table.proofs.PageBytes.{within-table}
+use Rattle.index_write.specs.Standing.{Owned}
 use Rattle.tree_delete.specs.declared.entries.Remnant.{Remnant}
 use Rattle.tree_delete.specs.declared.rows.Swept.{Swept}
 use Rattle.tree_delete.specs.Keeping.{numbersAt, Linked, Paged, Kept}

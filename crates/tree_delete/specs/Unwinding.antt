@@ -11,7 +11,7 @@ use Rattle.page_tree.specs.OffPages.{Left, sweep}
 use Rattle.page_tree.specs.Numbered.{Numbered, stepNumbered}
 use Rattle.index_table.specs.Layout.{layoutOf, Ref}
 use Rattle.index_table.specs.Pages.{pagesAt, numberedAt, met, metAll}
-use Rattle.index_table.specs.Standing.{Owned}
+use Rattle.index_write.specs.Standing.{Owned}
 use Rattle.tree_delete.specs.declared.entries.Remnant.{Remnant}
 use Rattle.tree_delete.specs.declared.rows.Swept.{Swept}
 use Rattle.tree_delete.specs.Keeping.{numbersAt, Linked, Paged, Kept}

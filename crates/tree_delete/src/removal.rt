@@ -16,7 +16,7 @@ use index_table::layout::count;
 use index_table::layout::depth;
 use index_table::layout::pointer;
 use index_table::layout::wide;
-use index_table::rows::load_page;
+use index_write::rows::load_page;
 use page_tree::Row;
 use table_search::Spot;
 use table_search::seek;

@@ -5,8 +5,8 @@ ghost use Rattle.page_tree.specs.Row.{Holds};
 ghost use Rattle.tree_delete.specs.Rows.{around, PutPost, SettlePre, SettlePost};
 use crate::entries::Remnant;
 use index_table::layout::PageNo;
-use index_table::write::free_page;
-use index_table::write::store_page;
+use index_write::write::free_page;
+use index_write::write::store_page;
 use page_tree::Row;
 use page_tree::Unwind;
 

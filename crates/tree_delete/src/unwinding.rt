@@ -9,7 +9,7 @@ use crate::rows::page_of;
 use crate::rows::put;
 use crate::rows::settle;
 use index_table::layout::PageNo;
-use index_table::rows::load_page;
+use index_write::rows::load_page;
 use page_tree::Row;
 use page_tree::Unwind;
 

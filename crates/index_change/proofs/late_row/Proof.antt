@@ -11,14 +11,14 @@ read-requires c κs = search needs
 level-requires : tie.Need-level-requires
 level-requires c κs = root-inside (c .before .before .pre .changeable) _ (c .read .ensures)
 
-wide-requires : tie.Need-wide-requires
-wide-requires c κs = search needs
+deep-requires : tie.Need-deep-requires
+deep-requires c κs = search needs
 
 plan-insertion-requires : tie.Need-plan-insertion-requires
 plan-insertion-requires c κs =
     let level = c .before in
     let start = level .before .before .before in
-    outcome-pre (start .pre .changeable) _ (level .before .read .ensures) _ _ (c .wide .ensures) (level .level .ensures) _ (start .pre)
+    outcome-pre (start .pre .changeable) _ (level .before .read .ensures) _ _ (c .deep .ensures) (level .level .ensures) _ (start .pre)
 
 cast-if1 : tie.Need-cast-if1
 cast-if1 c = search needs
@@ -29,7 +29,7 @@ returns c =
     let level = planned .before .before in
     let start = level .before .before .before in
     let read = level .before .read .ensures in
-    row-eight (start .pre .changeable) _ read _ _ (planned .before .wide .ensures) (level .level .ensures) _ (start .pre) _ (planned .plan-insertion .ensures) (omega arith)
+    row-eight (start .pre .changeable) _ read _ _ (planned .before .deep .ensures) (level .level .ensures) _ (start .pre) _ (planned .plan-insertion .ensures) (omega arith)
 
 returns-2 : tie.Need-returns-2
 returns-2 c =
@@ -37,7 +37,7 @@ returns-2 c =
     let level = planned .before .before in
     let start = level .before .before .before in
     let read = level .before .read .ensures in
-    row-neither (start .pre .changeable) _ read _ _ (planned .before .wide .ensures) (level .level .ensures) _ (start .pre) _ (planned .plan-insertion .ensures) (omega arith) (omega (arith, pages-fit (start .pre .changeable) _ read))
+    row-neither (start .pre .changeable) _ read _ _ (planned .before .deep .ensures) (level .level .ensures) _ (start .pre) _ (planned .plan-insertion .ensures) (omega arith) (omega (arith, pages-fit (start .pre .changeable) _ read))
 
 pages-in-use-requires : tie.Need-pages-in-use-requires
 pages-in-use-requires c κs =
@@ -63,7 +63,7 @@ returns-3 c =
     let level = planned .before .before in
     let start = level .before .before .before in
     let read = level .before .read .ensures in
-    row-seven (start .pre .changeable) _ read _ _ (planned .before .wide .ensures) (level .level .ensures) _ (start .pre) _ (planned .plan-insertion .ensures) (omega arith) (omega (arith, counted .pages-in-use .ensures, pages-counted (start .pre .changeable) _ read))
+    row-seven (start .pre .changeable) _ read _ _ (planned .before .deep .ensures) (level .level .ensures) _ (start .pre) _ (planned .plan-insertion .ensures) (omega arith) (omega (arith, counted .pages-in-use .ensures, pages-counted (start .pre .changeable) _ read))
 
 returns-4 : tie.Need-returns-4
 returns-4 c =
@@ -72,7 +72,7 @@ returns-4 c =
     let level = planned .before .before in
     let start = level .before .before .before in
     let read = level .before .read .ensures in
-    row-neither (start .pre .changeable) _ read _ _ (planned .before .wide .ensures) (level .level .ensures) _ (start .pre) _ (planned .plan-insertion .ensures) (omega arith) (omega (arith, counted .pages-in-use .ensures, pages-counted (start .pre .changeable) _ read))
+    row-neither (start .pre .changeable) _ read _ _ (planned .before .deep .ensures) (level .level .ensures) _ (start .pre) _ (planned .plan-insertion .ensures) (omega arith) (omega (arith, counted .pages-in-use .ensures, pages-counted (start .pre .changeable) _ read))
 
 pub late-row-spec : {M : Type 1} → statement M
 late-row-spec =
@@ -80,7 +80,7 @@ late-row-spec =
     (tie.spec
     read-requires
     level-requires
-    wide-requires
+    deep-requires
     plan-insertion-requires
     cast-if1
     returns

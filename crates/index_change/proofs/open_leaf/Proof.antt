@@ -12,11 +12,11 @@ read-requires c κs = search needs
 open-page-requires : tie.Need-open-page-requires
 open-page-requires c κs = rw (c .before .read .ensures .entries) (c .before .before .before .before .pre .openable)
 
-wide-requires : tie.Need-wide-requires
-wide-requires c κs = search needs
+deep-requires : tie.Need-deep-requires
+deep-requires c κs = search needs
 
 write-news-requires : tie.Need-write-news-requires
-write-news-requires c κs = write-pre (c .before .before .before .before .before .before .before .before .before .pre) (c .before .before .before .before .before .before .read .ensures) (c .before .before .before .before .open-page .ensures) (c .wide .ensures)
+write-news-requires c κs = write-pre (c .before .before .before .before .before .before .before .before .before .pre) (c .before .before .before .before .before .before .read .ensures) (c .before .before .before .before .open-page .ensures) (c .deep .ensures)
 
 add-set-held : tie.Need-add-set-held
 add-set-held c = omega (arith, c .before .before .before .before .before .before .before .before .before .before .before .read .ensures .held, c .before .before .before .before .before .before .before .before .before .before .before .before .before .before .pre .held)
@@ -28,7 +28,7 @@ same-length : tie.Need-same-length
 same-length c = c .before .before .set-held .kept .0 ∙ c .before .before .before .before .before .before .before .write-news .kept .0 ∙ c .before .before .before .before .before .before .before .before .before .before .before .before .open-page .kept .0
 
 returns : tie.Need-returns
-returns c = opened-written (c .before .before .before .before .before .before .before .before .before .before .before .before .before .before .before .before .before .pre) (c .before .before .before .before .before .before .before .before .before .before .before .before .before .before .read .ensures) (c .before .before .before .before .before .before .before .before .before .before .before .before .open-page .ensures) (c .before .before .before .before .before .before .before .before .wide .ensures) (c .before .before .before .before .before .before .before .write-news .ensures) (c .before .before .set-held .ensures)
+returns c = opened-written (c .before .before .before .before .before .before .before .before .before .before .before .before .before .before .before .before .before .pre) (c .before .before .before .before .before .before .before .before .before .before .before .before .before .before .read .ensures) (c .before .before .before .before .before .before .before .before .before .before .before .before .open-page .ensures) (c .before .before .before .before .before .before .before .before .deep .ensures) (c .before .before .before .before .before .before .before .write-news .ensures) (c .before .before .set-held .ensures)
 
 pub open-leaf-spec : {M : Type 1} → statement M
 open-leaf-spec =
@@ -36,7 +36,7 @@ open-leaf-spec =
     (tie.spec
     read-requires
     open-page-requires
-    wide-requires
+    deep-requires
     write-news-requires
     add-set-held
     set-held-requires

@@ -11,15 +11,15 @@ read-requires c κs = search needs
 level-requires : tie.Need-level-requires
 level-requires c κs = root-inside (c .before .before .before .before .pre .0 .changeable) _ (c .before .read .ensures)
 
-wide-requires : tie.Need-wide-requires
-wide-requires c κs = search needs
+deep-requires : tie.Need-deep-requires
+deep-requires c κs = search needs
 
 put-in-requires : tie.Need-put-in-requires
 put-in-requires c κs =
     let level = c .before .before in
     let read = level .before .before in
     let start = read .before .before .before in
-    put-pre (start .pre .0 .changeable) _ (read .read .ensures) _ _ (c .wide .ensures) (level .level .ensures) _ (start .pre .0) (start .pre .1)
+    put-pre (start .pre .0 .changeable) _ (read .read .ensures) _ _ (c .deep .ensures) (level .level .ensures) _ (start .pre .0) (start .pre .1)
 
 set-root-requires : tie.Need-set-root-requires
 set-root-requires c κs = search needs
@@ -45,7 +45,7 @@ returns c =
     let level = taken .before .before .before in
     let read = level .before .before in
     let start = read .before .before .before in
-    on-repaged (start .pre .0 .changeable) _ (read .read .ensures) _ _ (taken .before .wide .ensures) (level .level .ensures) _ (start .pre .0) _ _ _ _ (taken .put-in .ensures) (rooted .set-root .ensures) (held .set-held .ensures)
+    on-repaged (start .pre .0 .changeable) _ (read .read .ensures) _ _ (taken .before .deep .ensures) (level .level .ensures) _ (start .pre .0) _ _ _ _ (taken .put-in .ensures) (rooted .set-root .ensures) (held .set-held .ensures)
 
 pub splice-pages-spec : {M : Type 1} → statement M
 splice-pages-spec =
@@ -53,7 +53,7 @@ splice-pages-spec =
     (tie.spec
     read-requires
     level-requires
-    wide-requires
+    deep-requires
     put-in-requires
     set-root-requires
     add-set-held

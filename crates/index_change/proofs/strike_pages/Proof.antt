@@ -10,15 +10,15 @@ read-requires c κs = search needs
 level-requires : tie.Need-level-requires
 level-requires c κs = root-inside (c .before .before .before .before .pre .changeable) _ (c .before .read .ensures)
 
-wide-requires : tie.Need-wide-requires
-wide-requires c κs = search needs
+deep-requires : tie.Need-deep-requires
+deep-requires c κs = search needs
 
 take-out-at-requires : tie.Need-take-out-at-requires
 take-out-at-requires c κs =
     let level = c .before .before in
     let read = level .before .before in
     let start = read .before .before .before in
-    take-pre (start .pre .changeable) _ (read .read .ensures) _ _ (c .wide .ensures) (level .level .ensures) _ (start .pre)
+    take-pre (start .pre .changeable) _ (read .read .ensures) _ _ (c .deep .ensures) (level .level .ensures) _ (start .pre)
 
 set-root-requires : tie.Need-set-root-requires
 set-root-requires c κs = search needs
@@ -40,7 +40,7 @@ returns c =
     let level = taken .before .before .before in
     let read = level .before .before in
     let start = read .before .before .before in
-    off-repaged (start .pre .changeable) _ (read .read .ensures) _ _ (taken .before .wide .ensures) (level .level .ensures) _ _ _ _ (taken .take-out-at .ensures) (rooted .set-root .ensures) (held .set-held .ensures)
+    off-repaged (start .pre .changeable) _ (read .read .ensures) _ _ (taken .before .deep .ensures) (level .level .ensures) _ _ _ _ (taken .take-out-at .ensures) (rooted .set-root .ensures) (held .set-held .ensures)
 
 pub strike-pages-spec : {M : Type 1} → statement M
 strike-pages-spec =
@@ -48,7 +48,7 @@ strike-pages-spec =
     (tie.spec
     read-requires
     level-requires
-    wide-requires
+    deep-requires
     take-out-at-requires
     set-root-requires
     sub-set-held

@@ -5,12 +5,12 @@ use borrow.Author.Needs.{needs}
 use Prim.Native.Nat.{ℕ, _<_}
 use borrow.Fn.Kinds.{In}
 use borrow.Fn.PlainCycle.{Measures, is, falls, and}
+use Rattle.index_table.proofs.layout.child.Reads as child-reads
+use Rattle.index_table.proofs.layout.count.Reads as count-reads
+use Rattle.index_write.proofs.write.free_page.Reads as free-page-reads
 use Rattle.table_delete.proofs.lower.Reads as lower
 use Rattle.table_delete.proofs.lower.Kinds as lower-kinds
 use Rattle.table_delete.proofs.+lower.Lts-lower as lower-lts
-use Rattle.index_table.proofs.layout.child.Reads as child-reads
-use Rattle.index_table.proofs.layout.count.Reads as count-reads
-use Rattle.index_table.proofs.write.free_page.Reads as free-page-reads
 use Rattle.table_delete.proofs.+lower.{statement}
 use Rattle.table_delete.proofs.+lower.Tie.{close}
 

@@ -7,10 +7,10 @@ use borrow.Author.Needs.{needs}
 use Prim.Native.Nat.{ℕ, _<_}
 use borrow.Fn.Kinds.{In}
 use borrow.Fn.PlainCycle.{Measures, is, falls, and}
+use Rattle.index_write.proofs.write.find_free.Reads as find-free-reads
 use Rattle.table_insert.proofs.grow.Reads as grow
 use Rattle.table_insert.proofs.grow.Kinds as grow-kinds
 use Rattle.table_insert.proofs.+grow.Lts-grow as grow-lts
-use Rattle.index_table.proofs.write.find_free.Reads as find-free-reads
 use Rattle.table_insert.proofs.place_parts.Reads as place-parts-reads
 use Rattle.table_insert.proofs.+grow.{statement}
 use Rattle.table_insert.proofs.+grow.Tie.{close}

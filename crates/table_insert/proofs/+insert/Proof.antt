@@ -9,14 +9,14 @@ use borrow.Author.Needs.{needs}
 use Prim.Native.Nat.{ℕ, _<_}
 use borrow.Fn.Kinds.{In}
 use borrow.Fn.PlainCycle.{Measures, is, falls, and}
+use Rattle.index_table.proofs.layout.child.Reads as child-reads
+use Rattle.index_write.proofs.rows.splice_page.Reads as splice-page-reads
+use Rattle.table_search.proofs.seek.Reads as seek-reads
 use Rattle.table_insert.proofs.insert.Reads as insert
 use Rattle.table_insert.proofs.insert.Kinds as insert-kinds
 use Rattle.table_insert.proofs.+insert.Lts-insert as insert-lts
-use Rattle.index_table.proofs.layout.child.Reads as child-reads
-use Rattle.index_table.proofs.rows.splice_page.Reads as splice-page-reads
 use Rattle.table_insert.proofs.page_alone.Reads as page-alone-reads
 use Rattle.table_insert.proofs.place_parts.Reads as place-parts-reads
-use Rattle.table_search.proofs.seek.Reads as seek-reads
 use Rattle.table_insert.proofs.+insert.{statement}
 use Rattle.table_insert.proofs.+insert.Tie.{close}
 

@@ -7,13 +7,13 @@ use Rattle.page_tree.specs.Row.{places}
 use Rattle.page_tree.proofs.RowLaws.{Full}
 use Rattle.table_insert.proofs.PlacedParts.{Storing, first-entry, first-storable, first-end, storing-start, next-pre, next-end, storing-more, storing-end}
 use borrow.Author.Needs.{needs}
+use Rattle.page_tree.proofs.Row.cuts.Reads as cuts-reads
+use Rattle.page_tree.proofs.Row.new.Reads as new-reads
+use Rattle.index_write.proofs.write.store_page.Reads as store-page-reads
 use Rattle.table_insert.proofs.place_parts.Statement.{statement}
 use Rattle.table_insert.proofs.place_parts.Tie as tie
 use Rattle.table_insert.proofs.place_parts.Reads as reads
 use Rattle.table_insert.proofs.place_parts.Lts as lts
-use Rattle.index_table.proofs.write.store_page.Reads as store-page-reads
-use Rattle.page_tree.proofs.Row.cuts.Reads as cuts-reads
-use Rattle.page_tree.proofs.Row.new.Reads as new-reads
 use Rattle.table_insert.proofs.place_part.Reads as place-part-reads
 use Rattle.table_insert.proofs.pointer_to.Reads as pointer-to-reads
 

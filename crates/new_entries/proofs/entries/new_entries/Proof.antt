@@ -4,7 +4,7 @@ use Prim.Native.Nat.{ℕ, _<_}
 use borrow.Author.Needs.{needs}
 use lib.ListN.{length}
 use Rattle.leaf_list.specs.Register.{keyAt}
-use Rattle.table_calls.proofs.FoundLeaves.{dummy-pointer, live-pointer}
+use Rattle.index_table.proofs.Pointers.{dummy-pointer, live-pointer}
 use Rattle.new_entries.specs.Entries.{NewPre, NewPost}
 use Rattle.new_entries.proofs.NewLeaves.{new-dummy, other-leaf, new-beside}
 use Rattle.new_entries.proofs.entries.new_entries.Statement.{statement}

@@ -4,8 +4,9 @@ use mathlib.Core.Path.{_≡_, sym, ap, subst, _∙_}
 use Prim.Native.Nat.{ℕ, _<_}
 use native.Mathlib.Omega.{arith}
 use lib.ListN.{length, getD}
+use Rattle.index_table.proofs.Pointers.{dummy-pointer, live-pointer}
 use Rattle.table_calls.specs.Answers.{plain, withRecord}
-use Rattle.table_calls.proofs.FoundLeaves.{dummy-pointer, live-pointer, dummy-absent, other-absent, live-found, live-inside}
+use Rattle.table_calls.proofs.FoundLeaves.{dummy-absent, other-absent, live-found, live-inside}
 use Rattle.table_calls.proofs.find.find_held.Statement.{statement}
 use Rattle.table_calls.proofs.find.find_held.Tie as tie
 

@@ -11,8 +11,8 @@ use Rattle.table_calls.proofs.list.list_held.Tie as tie
 read-requires : tie.Need-read-requires
 read-requires c κs = header-long (c .before .before .before .before .pre .0)
 
-wide-requires : tie.Need-wide-requires
-wide-requires c κs = search needs
+deep-requires : tie.Need-deep-requires
+deep-requires c κs = search needs
 
 level-requires : tie.Need-level-requires
 level-requires c κs = root-page (c .before .before .before .before .before .before .pre .0) _ (c .before .read .ensures)
@@ -21,12 +21,12 @@ next-position-requires : tie.Need-next-position-requires
 next-position-requires c κs =
     let start = c .before .before .before .before .before .before .before in
     let read = c .before .before .read .ensures in
-    (width-high (start .pre .0) _ read _ (c .before .wide .ensures), omega arith, key-narrow (start .pre .0) _ read _ _ _ (c .before .wide .ensures) (c .level .ensures) (start .pre .1))
+    (width-high (start .pre .0) _ read _ (c .before .deep .ensures), omega arith, key-narrow (start .pre .0) _ read _ _ _ (c .before .deep .ensures) (c .level .ensures) (start .pre .1))
 
 list-from-requires : tie.Need-list-from-requires
 list-from-requires c κs =
     let start = c .before .before .before .before .before .before .before .before .before in
-    list-start (start .pre .0) _ (c .before .before .before .before .read .ensures) _ _ _ (c .before .before .before .wide .ensures) (c .before .before .level .ensures) (start .pre .1) _ (c .before .next-position .ensures)
+    list-start (start .pre .0) _ (c .before .before .before .before .read .ensures) _ _ _ (c .before .before .before .deep .ensures) (c .before .before .level .ensures) (start .pre .1) _ (c .before .next-position .ensures)
 
 with-count-requires : tie.Need-with-count-requires
 with-count-requires c κs = search needs
@@ -38,7 +38,7 @@ returns : tie.Need-returns
 returns c =
     let at = c .before .before .before in
     let start = at .before .before .before .before .before .before .before .before .before .before in
-    let end = list-end (start .pre .0) _ (at .before .before .before .before .before .read .ensures) _ _ _ (at .before .before .before .before .wide .ensures) (at .before .before .before .level .ensures) (start .pre .1) _ _ _ _ (at .before .before .next-position .ensures) (at .list-from .ensures) in
+    let end = list-end (start .pre .0) _ (at .before .before .before .before .before .read .ensures) _ _ _ (at .before .before .before .before .deep .ensures) (at .before .before .before .level .ensures) (start .pre .1) _ _ _ _ (at .before .before .next-position .ensures) (at .list-from .ensures) in
     record { answered = c .with-count .ensures ∙ end .answered; slice = end .slice }
 
 pub list-held-spec : {M : Type 1} → statement M
@@ -46,7 +46,7 @@ list-held-spec =
     tie.close
     (tie.spec
     read-requires
-    wide-requires
+    deep-requires
     level-requires
     next-position-requires
     list-from-requires

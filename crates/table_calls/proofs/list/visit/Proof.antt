@@ -1,7 +1,7 @@
 -- A visit's cases are the code's returns. Assumes nothing.
 use borrow.Author.Needs.{needs}
 use native.Mathlib.Omega.{arith}
-use Rattle.table_calls.proofs.FoundLeaves.{dummy-pointer, live-pointer}
+use Rattle.index_table.proofs.Pointers.{dummy-pointer, live-pointer}
 use Rattle.table_calls.proofs.VisitSteps.{visited-dummy, visited-inside, visited-below, visited-ended, visited-full, visited-written}
 use Rattle.table_calls.proofs.list.visit.Statement.{statement}
 use Rattle.table_calls.proofs.list.visit.Tie as tie

@@ -8,7 +8,7 @@ use borrow.Author.Needs.{needs}
 use borrow.Author.Tests.{eq-eqb, ne-eqb}
 use lib.Dec.{eqb}
 use lib.ListN.{length, getD}
-use Rattle.table_calls.proofs.FoundLeaves.{dummy-pointer, live-pointer}
+use Rattle.index_table.proofs.Pointers.{dummy-pointer, live-pointer}
 use Rattle.table_change.specs.News.{keyIs}
 use Rattle.table_change.proofs.rows.is_key.Statement.{statement}
 use Rattle.table_change.proofs.rows.is_key.Tie as tie

@@ -7,15 +7,15 @@ use native.Mathlib.Omega.{arith}
 use borrow.Author.Needs.{needs}
 use borrow.Fn.Kinds.{In}
 use borrow.Fn.PlainCycle.{Measures, is, falls, and}
+use Rattle.page_tree.proofs.Row.depth.Reads as depth-reads
+use Rattle.page_tree.proofs.Row.pointer.Reads as pointer-reads
+use Rattle.index_write.proofs.rows.load_page.Reads as load-page-reads
 use Rattle.tree_delete.proofs.unwinding.back.Reads as back
 use Rattle.tree_delete.proofs.unwinding.back.Kinds as back-kinds
 use Rattle.tree_delete.proofs.unwinding.+back+sweep.Lts-back as back-lts
 use Rattle.tree_delete.proofs.unwinding.sweep.Reads as sweep
 use Rattle.tree_delete.proofs.unwinding.sweep.Kinds as sweep-kinds
 use Rattle.tree_delete.proofs.unwinding.+back+sweep.Lts-sweep as sweep-lts
-use Rattle.index_table.proofs.rows.load_page.Reads as load-page-reads
-use Rattle.page_tree.proofs.Row.depth.Reads as depth-reads
-use Rattle.page_tree.proofs.Row.pointer.Reads as pointer-reads
 use Rattle.tree_delete.proofs.entries.idle.Reads as idle-reads
 use Rattle.tree_delete.proofs.entries.step.Reads as step-reads
 use Rattle.tree_delete.proofs.rows.joined.Reads as joined-reads

@@ -1,0 +1,4 @@
+pub mod OpenedPages
+pub mod PageParts
+pub mod PageChanges
+pub mod WholePages
