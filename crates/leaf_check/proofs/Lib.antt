@@ -1,4 +1,5 @@
 pub mod EntryTests
+pub mod DepthTable
 pub mod PassTests
 pub mod RowTurns
 pub mod UncountedTurns

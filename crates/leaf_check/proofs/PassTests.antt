@@ -3,9 +3,10 @@ use mathlib.Core.Path.{_≡_, refl, sym, ap, _∙_}
 use mathlib.Core.Logic.{_≢_}
 use mathlib.Core.Bool.{Bool, true, false, cond, not, _&&_, _||_, and-false, and-assoc, true≢false}
 use mathlib.Core.List.{List}
-use Prim.Native.Nat.{ℕ, suc, _+_, _-_, _%_, _≤_, _<_, _^_, max}
+use Prim.Native.Nat.{ℕ, zero, suc, _+_, _-_, _%_, _≤_, _<_, _^_, max}
 use native.Mathlib.Omega.{arith}
-use lib.Bits.{bitOr, bitXor}
+use native.Mathlib.Nat.{mod-eq-of-lt}
+use lib.Bits.{bitOr, bitXor, bitAnd}
 use lib.Dec.{eqb, leb, ltb}
 use lib.ListN.{length}
 use lib.Pow.{pow-lt, pow-mono}
@@ -14,9 +15,10 @@ use Rattle.leaf_list.specs.Keys.{bitAt, setBitAt, firstBits}
 use Rattle.leaf_list.specs.Register.{keyAt, inUse}
 use Rattle.leaf_list.specs.Conditions.{pointerFits, entryFits}
 use Rattle.leaf_list.proofs.CheckLoop.{setBitAt-bound, setBitAt-shift}
-use Rattle.leaf_list.proofs.KeyLaws.{xor-mask, or-mask}
+use Rattle.leaf_list.proofs.KeyLaws.{bit-by-and, xor-mask, or-mask}
 use Rattle.index_table.specs.Pages.{recordOf}
 use Rattle.leaf_check.specs.Leaves.{NarrowRegister}
+use Rattle.leaf_check.specs.DepthTable.{BitsBehind}
 use Rattle.leaf_check.specs.Passes.{Meets, PassPre, told, PassedEntry}
 use Rattle.leaf_check.specs.declared.passes.Pass.{Pass}
 use Rattle.leaf_check.proofs.EntryTests.{record-fits}
@@ -103,51 +105,70 @@ module _ (w c floor D τ d : ℕ) (P : Bool) where
       go false true h k =
           rw (h, k, shallow dummy e (ltb-true c d k) (ltb-false floor d h), and-false (eqb d 0 || not (bitAt w d D)), and-false (leb d w))
 
--- The depths above a floor, counted from w.
-floor-same : (w floor room d : ℕ) (P : Bool) → room ≡ w - floor → (ltb floor d && (leb d w && P)) ≡ (ltb (w - room) d && (leb d w && P))
-floor-same w floor room d P e = go (leb d w) refl
-  where
-    same : d ≤ w → (t : Bool) → ltb floor d ≡ t → ltb (w - room) d ≡ t
-    same l true h = lt-ltb (w - room) d (omega (arith, ltb-true floor d h))
-    same l false h = le-ltb (w - room) d (omega (arith, ltb-false floor d h))
-
-    go : (t : Bool) → leb d w ≡ t → (ltb floor d && (leb d w && P)) ≡ (ltb (w - room) d && (leb d w && P))
-    go true h = rw (h, same (leb-true d w h) (ltb floor d) refl)
-    go false h = rw (h, and-false (ltb floor d), and-false (ltb (w - room) d))
-
--- A depth is among the last `room` up to w exactly if w less it, wrapped, is below room; x is that difference.
-module _ (w room d x : ℕ) (narrow : w ≤ 64) (few : room ≤ w) (d-fits : d < 2 ^ 64) (x-fits : x < 2 ^ 64) (less : (x + d) % 2 ^ 64 ≡ w) where
-  pub depth-within : x < room → (w - room < d) × (d ≤ w)
-  depth-within l = (omega arith, omega arith)
-
-  pub depth-outside : room ≤ x → (P : Bool) → (ltb (w - room) d && (leb d w && P)) ≡ false
-  depth-outside l P = go (leb d w) refl
+-- Fewer bits are behind a depth than behind a floor exactly if it is deeper, and at most w.
+module _ (w d below : ℕ) (narrow : w ≤ 64) (b : BitsBehind w d below) where
+  deeper : (floor limit : ℕ) → suc limit ≡ 2 ^ (w - floor) → (P : Bool) → (ltb floor d && (leb d w && P)) ≡ (ltb below limit && P)
+  deeper floor limit e P = go (leb d w) refl
     where
-      go : (t : Bool) → leb d w ≡ t → (ltb (w - room) d && (leb d w && P)) ≡ false
-      go true h = rw (le-ltb (w - room) d (omega (arith, leb-true d w h)))
-      go false h = rw h (and-false (ltb (w - room) d))
+      same : d ≤ w → (t : Bool) → ltb floor d ≡ t → ltb below limit ≡ t
+      same l true h =
+          let k : w - d < w - floor = omega (arith, ltb-true floor d h) in
+          lt-ltb below limit (omega (arith, pow-lt k, b .within l))
+      same l false h =
+          let k : w - floor ≤ w - d = omega (arith, ltb-false floor d h) in
+          le-ltb below limit (omega (arith, pow-mono k, b .within l))
 
--- What the test of the depth says.
-pub depth-says : (w floor D d : ℕ) → (ltb floor d && (leb d w && not (bitAt w d D))) ≡ true → (floor < d) × (d ≤ w) × (bitAt w d D ≡ false)
-depth-says w floor D d h = go (ltb floor d) (leb d w) refl refl h
-  where
-    go : (t u : Bool) → ltb floor d ≡ t → leb d w ≡ u → (t && (u && not (bitAt w d D))) ≡ true → (floor < d) × (d ≤ w) × (bitAt w d D ≡ false)
-    go true true e f z = (ltb-true floor d e, leb-true d w f, not-true (bitAt w d D) z)
-    go true false e f z = absurd (true≢false (sym z))
-    go false u e f z = absurd (true≢false (sym z))
+      go : (t : Bool) → leb d w ≡ t → (ltb floor d && (leb d w && P)) ≡ (ltb below limit && P)
+      go true h = rw (h, same (leb-true d w h) (ltb floor d) refl)
+      go false h =
+          let k : w - floor ≤ 64 = omega arith in
+          rw (h, and-false (ltb floor d), le-ltb below limit (omega (arith, pow-mono k, b .beyond (leb-false d w h))))
+
+  -- A depth with fewer bits behind it than a key has is one of its depths.
+  inside : (limit : ℕ) → limit < 2 ^ w → below < limit → (0 < d) × (d ≤ w)
+  inside limit l h = go (leb d w) refl
+    where
+      go : (t : Bool) → leb d w ≡ t → (0 < d) × (d ≤ w)
+      go true e = (positive d (b .within (leb-true d w e)), leb-true d w e)
+        where
+          positive : (n : ℕ) → suc below ≡ 2 ^ (w - n) → 0 < n
+          positive zero z =
+              let e : w - 0 ≡ w = omega arith in
+              absurd (omega (arith, rw e at z))
+          positive (suc n) z = omega arith
+      go false e = absurd (omega (arith, pow-mono narrow, b .beyond (leb-false d w e)))
 
 -- ---- one entry
 
-module _ (w : ℕ) (keys used : List ℕ) (c : ℕ) (s : Pass) (d p : ℕ) where
+pub both : (a b : Bool) → (a && b) ≡ true → (a ≡ true) × (b ≡ true)
+both true b e = (refl, e)
+both false b e = absurd (true≢false (sym e))
+
+twice : (a : Bool) → not (not a) ≡ a
+twice true = refl
+twice false = refl
+
+module _ (w : ℕ) (keys used : List ℕ) (c : ℕ) (s : Pass) (d below p : ℕ) (pre : PassPre w s) (b : BitsBehind w d below) where
   abbrev DepthFits : Bool
-  DepthFits = ltb (w - s .room) d && (leb d w && not (bitAt w d (s .disc)))
+  DepthFits = ltb below (s .limit) && eqb (bitAnd (s .disc) (below + 1)) 0
+
+  -- The bit of a depth within w is the one above those behind it.
+  clear : below < s .limit → not (bitAt w d (s .disc)) ≡ eqb (bitAnd (s .disc) (below + 1)) 0
+  clear l =
+      let e : below + 1 ≡ 2 ^ (w - d) = omega (arith, b .within (inside w d below (pre .width) b (s .limit) (pre .limit) l .1)) in
+      sym (ap not (bit-by-and w d (s .disc) (below + 1) e)) ∙ twice (eqb (bitAnd (s .disc) (below + 1)) 0)
 
   -- An entry is above c and fits exactly if its depth and its pointer fit.
   whole : {τ : ℕ} {dummy : Bool} → Meets w c s τ dummy → (t : Bool) → DepthFits ≡ t
       → (t && pointerFits w (keyAt keys) (inUse used) (s .disc) τ d (recordOf 65535 p)) ≡ (ltb c d && entryFits w (keyAt keys) (inUse used) (s .disc) τ dummy d (recordOf 65535 p))
   whole {τ} {dummy} m t e =
       sym (parts w c (max c (cond dummy τ 0)) (s .disc) τ d (pointerFits w (keyAt keys) (inUse used) (s .disc) τ d (recordOf 65535 p)) dummy refl
-      ∙ ap (λ (u : Bool). u && pointerFits w (keyAt keys) (inUse used) (s .disc) τ d (recordOf 65535 p)) (floor-same w (max c (cond dummy τ 0)) (s .room) d (not (bitAt w d (s .disc))) (m .room) ∙ e))
+      ∙ ap (λ (u : Bool). u && pointerFits w (keyAt keys) (inUse used) (s .disc) τ d (recordOf 65535 p))
+      (deeper w d below (pre .width) b (max c (cond dummy τ 0)) (s .limit) (m .limit) (not (bitAt w d (s .disc))) ∙ go (ltb below (s .limit)) refl ∙ e))
+    where
+      go : (u : Bool) → ltb below (s .limit) ≡ u → (u && not (bitAt w d (s .disc))) ≡ (u && eqb (bitAnd (s .disc) (below + 1)) 0)
+      go true h = clear (ltb-true below (s .limit) h)
+      go false h = refl
 
   -- An entry whose depth does not fit is refused.
   pub pass-refused : DepthFits ≡ false → (τ : ℕ) (dummy : Bool) → Meets w c s τ dummy → (r : Pass) → r .ok ≡ false → PassedEntry w keys used c s τ dummy d p r
@@ -161,23 +182,41 @@ module _ (w : ℕ) (keys used : List ℕ) (c : ℕ) (s : Pass) (d p : ℕ) where
         dummies = λ t. absurd (true≢false (sym t ∙ o));
       }
 
-  module _ (pre : PassPre w s) (fits : DepthFits ≡ true) (below : ℕ) (under : suc below ≡ 2 ^ (w - d)) where
+  module _ (fits : DepthFits ≡ true) where
+    fewer : below < s .limit
+    fewer = ltb-true below (s .limit) (both (ltb below (s .limit)) (eqb (bitAnd (s .disc) (below + 1)) 0) fits .0)
+
+    one : (0 < d) × (d ≤ w)
+    one = inside w d below (pre .width) b (s .limit) (pre .limit) fewer
+
+    under : suc below ≡ 2 ^ (w - d)
+    under = b .within (one .1)
+
+    bit-clear : bitAt w d (s .disc) ≡ false
+    bit-clear = not-true (bitAt w d (s .disc)) (clear fewer ∙ both (ltb below (s .limit)) (eqb (bitAnd (s .disc) (below + 1)) 0) fits .1)
+
     -- The next discriminator, and that it stays within w bits.
     pub next-disc : bitOr (s .disc) below + 1 ≡ setBitAt w d (s .disc)
-    next-disc = or-mask (s .disc) (w - d) below under ∙ sym (setBitAt-shift w d (s .disc) (depth-says w (w - s .room) (s .disc) d fits .2))
+    next-disc = or-mask (s .disc) (w - d) below under ∙ sym (setBitAt-shift w d (s .disc) bit-clear)
 
     pub next-bound : bitOr (s .disc) below + 1 < 2 ^ w
     next-bound =
-        let z : suc (d - 1) ≡ d = omega (arith, depth-says w (w - s .room) (s .disc) d fits .0) in
-        rw next-disc (rw z at (setBitAt-bound w (d - 1) (s .disc) (pre .disc) (omega (arith, z, depth-says w (w - s .room) (s .disc) d fits .1))))
+        let z : suc (d - 1) ≡ d = omega (arith, one .0) in
+        rw next-disc (rw z at (setBitAt-bound w (d - 1) (s .disc) (pre .disc) (omega (arith, z, one .1))))
 
     module _ {τ : ℕ} {dummy : Bool} (m : Meets w c s τ dummy) where
+      -- A depth that fits is past all that it must pass.
+      past : max c (cond dummy τ 0) < d
+      past =
+          ltb-true (max c (cond dummy τ 0)) d
+          (both (ltb (max c (cond dummy τ 0)) d) (leb d w && true) (deeper w d below (pre .width) b (max c (cond dummy τ 0)) (s .limit) (m .limit) true ∙ rw (lt-ltb below (s .limit) fewer)) .0)
+
       -- A dummy is deeper than the entry before, which no entry before the first of all is.
       pub nil-fits : p ≡ 65535 → ltb below (s .low) ≡ pointerFits w (keyAt keys) (inUse used) (s .disc) τ d (recordOf 65535 p)
-      nil-fits e = rw (eq-eqb p 65535 e, fewer-behind w τ d (s .low) below (depth-says w (w - s .room) (s .disc) d fits .1) (m .trail) (m .low) under) (go (eqb τ 0) refl)
+      nil-fits e = rw (eq-eqb p 65535 e, fewer-behind w τ d (s .low) below (one .1) (m .trail) (m .low) under) (go (eqb τ 0) refl)
         where
           go : (t : Bool) → eqb τ 0 ≡ t → ltb τ d ≡ (t || ltb τ d)
-          go true z = lt-ltb τ d (omega (arith, eqb-true τ 0 z, depth-says w (w - s .room) (s .disc) d fits .0))
+          go true z = lt-ltb τ d (omega (arith, eqb-true τ 0 z, one .0))
           go false z = refl
 
       -- A record fits as its key does, where that tells whether it is in use.
@@ -187,21 +226,28 @@ module _ (w : ℕ) (keys used : List ℕ) (c : ℕ) (s : Pass) (d p : ℕ) where
           let n : p ≢ 65535 = λ z. omega (arith, g .long, g .few) in
           key-tells (keyAt keys p) (s .disc) (s .low) below (inUse used p) (g .free p) (rw (ne-eqb p 65535 n) at a)
           ∙ record-fits w (keyAt keys) (inUse used) (s .disc) τ d p _ _ n refl
-          (sym (key-fits w τ d (s .low) below (depth-says w (w - s .room) (s .disc) d fits .1) (m .trail) (m .low) under (keyAt keys p) (s .disc)))
+          (sym (key-fits w τ d (s .low) below (one .1) (m .trail) (m .low) under (keyAt keys p) (s .disc)))
 
-      -- An entry whose depth fits, by its pointer, with what is carried behind it.
-      pub pass-made : (r : Pass) → r .ok ≡ pointerFits w (keyAt keys) (inUse used) (s .disc) τ d (recordOf 65535 p) → r .disc ≡ bitOr (s .disc) below + 1 → r .low ≡ below → r .room ≡ cond (eqb p 65535) (w - d) (w - c)
-          → r .dummies ≡ cond (eqb p 65535) (suc (s .dummies)) (s .dummies) → PassedEntry w keys used c s τ dummy d p r
-      pass-made r o e l f n =
+      -- An entry whose depth fits, by its pointer, with what is carried behind it; the sum of the discriminator is wrapped, and need not be.
+      pub pass-made : (most : ℕ) → suc most ≡ 2 ^ (w - c) → (r : Pass) → r .ok ≡ pointerFits w (keyAt keys) (inUse used) (s .disc) τ d (recordOf 65535 p) → r .disc ≡ (bitOr (s .disc) below + 1) % 2 ^ 64
+          → r .low ≡ below → r .limit ≡ cond (eqb p 65535) below most → r .dummies ≡ cond (eqb p 65535) (suc (s .dummies)) (s .dummies) → PassedEntry w keys used c s τ dummy d p r
+      pass-made most k r o e l f n =
           record {
             verdict = o ∙ whole m true fits;
-            disc = λ t. e ∙ next-disc;
-            bound = λ t. omega (arith, next-bound);
-            above = λ t. omega (arith, e, l, or-right (s .disc) below);
-            meets = λ t. record { trail = depth-says w (w - s .room) (s .disc) d fits .1; low = rw l under; room = f ∙ go (eqb p 65535) };
+            disc = λ t. exact ∙ next-disc;
+            bound = λ t. omega (arith, exact, next-bound);
+            above = λ t. omega (arith, exact, l, or-right (s .disc) below);
+            meets = λ t. record { trail = one .1; low = rw l under; limit = rw f (go (eqb p 65535)) };
             dummies = λ t. n;
           }
         where
-          go : (t : Bool) → cond t (w - d) (w - c) ≡ w - max c (cond t d 0)
-          go true = omega (arith, m .room, depth-says w (w - s .room) (s .disc) d fits .0, depth-says w (w - s .room) (s .disc) d fits .1)
-          go false = omega arith
+          exact : r .disc ≡ bitOr (s .disc) below + 1
+          exact = e ∙ mod-eq-of-lt (omega (arith, next-bound, pow-mono (pre .width)))
+
+          go : (t : Bool) → suc (cond t below most) ≡ 2 ^ (w - max c (cond t d 0))
+          go true =
+              let q : max c d ≡ d = omega (arith, past) in
+              rw q under
+          go false =
+              let q : max c 0 ≡ c = omega arith in
+              rw q k

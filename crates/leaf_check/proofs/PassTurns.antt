@@ -3,10 +3,11 @@ use mathlib.Core.Path.{_≡_, refl, sym, ap, subst, _∙_}
 use mathlib.Core.Logic.{_≢_}
 use mathlib.Core.Bool.{Bool, true, false, cond, not, _&&_, _||_, and-false, true≢false}
 use mathlib.Core.List.{List, [], _∷_}
-use Prim.Native.Nat.{ℕ, suc, _+_, _-_, _≤_, _<_, max}
+use Prim.Native.Nat.{ℕ, suc, _+_, _-_, _≤_, _<_, _^_, max}
 use native.Mathlib.Omega.{arith}
 use lib.Dec.{eqb, leb, ltb}
 use lib.ListN.{length}
+use lib.Pow.{pow-lt, pow-mono}
 use borrow.Author.Tests.{eqb-true, eqb-false, ne-eqb, lt-leb, ltb-true, lt-ltb, le-ltb}
 use Rattle.leaf_list.specs.Keys.{bitAt, setBitAt}
 use Rattle.leaf_list.specs.Entries.{entry}
@@ -17,11 +18,13 @@ use Rattle.index_table.specs.Pages.{recordOf}
 use Rattle.index_table.specs.declared.header.Index.{Index}
 use Rattle.bytes_check.specs.Scans.{rowsOf}
 use Rattle.leaf_check.specs.Leaves.{countless, NarrowRegister, Scanned, leavesOfRow, RowSound}
+use Rattle.leaf_check.specs.DepthTable.{BitsBehind}
 use Rattle.leaf_check.specs.Passes.{Meets, Begun, PassPre, told, PassedEntry, Passed, scanBehind}
 use Rattle.leaf_check.specs.declared.entries.Scan.{Scan}
 use Rattle.leaf_check.specs.declared.entries.Checked.{Checked}
 use Rattle.leaf_check.specs.declared.passes.Pass.{Pass}
 use Rattle.leaf_check.proofs.EntryTests.{record-free, entry-refused, entry-next}
+use Rattle.leaf_check.proofs.PassTests.{both}
 use Rattle.leaf_check.proofs.RowTurns.{RowTurn, entryAt, entry-few, row-depth, row-entry, row-more, leaf-sound, leaf-marks}
 use Rattle.leaf_check.proofs.UncountedTurns.{uncounted, refused-uncounted}
 
@@ -34,7 +37,7 @@ pub record Named (h : Index) (index : List ℕ) (page c w m k n l a : ℕ) : Typ
   pub count : n ≡ countOf (pageBytes (layoutOf (h .entries)) index page)
   pub few : n ≤ 255
   pub last : l + 1 ≡ n
-  pub most : a ≡ h .width - c
+  pub most : suc a ≡ 2 ^ (h .width - c)
 
 -- An entry up to the last is among those that a page may hold.
 pub named-few : {h : Index} {index : List ℕ} {page c w m k n l o i : ℕ} → Named h index page c w m k n l o → length (rowsOf h index page) ≤ h .entries → i ≤ l → i < h .entries
@@ -54,10 +57,6 @@ module _ (h : Index) (index keys used : List ℕ) (page c count : ℕ) (s : Scan
     pub first : i ≡ 0 → scan ≡ s
     pub trail : 0 < i → (scan .trail ≡ entryAt h index page (i - 1) .0) × (c < scan .trail)
 
-both : (a b : Bool) → (a && b) ≡ true → (a ≡ true) × (b ≡ true)
-both true b e = (refl, e)
-both false b e = absurd (true≢false (sym e))
-
 -- A dummy is counted as one, and any other entry as live.
 counted-one : (b : Bool) (live dummies n : ℕ) → live + dummies ≡ n → cond b live (suc live) + cond b (suc dummies) dummies ≡ n + 1
 counted-one true live dummies n e = omega arith
@@ -66,10 +65,6 @@ counted-one false live dummies n e = omega arith
 few-one : (b : Bool) (dummies n : ℕ) → dummies ≤ n → cond b (suc dummies) dummies ≤ n + 1
 few-one true dummies n e = omega arith
 few-one false dummies n e = omega arith
-
--- An entry's answer, said of other names for the same numbers.
-passed-same : {w w′ most d d′ p p′ : ℕ} {keys : List ℕ} {pass r : Pass} → w ≡ w′ → d ≡ d′ → p ≡ p′ → Passed w keys most pass d p r → Passed w′ keys most pass d′ p′ r
-passed-same a e f z = rw (← a, ← e, ← f) z
 
 scan-same : {disc disc′ trail trail′ live live′ : ℕ} {dummy dummy′ closed closed′ : Bool} → disc ≡ disc′ → trail ≡ trail′ → dummy ≡ dummy′ → live ≡ live′ → closed ≡ closed′
     → _≡_ {A = Scan} (record { disc = disc; trail = trail; dummy = dummy; live = live; closed = closed }) (record { disc = disc′; trail = trail′; dummy = dummy′; live = live′; closed = closed′ })
@@ -123,26 +118,33 @@ module _ {h : Index} {index keys used : List ℕ} {page c count : ℕ} {s : Scan
 
   module _ {pass : Pass} {i : ℕ} (t : PassTurn h index keys used page c count s pass i) where
     -- What the next entry takes.
-    pub pass-pre : {w : ℕ} → w ≡ h .width → h .width ≤ 64 → i < 255 → PassPre w pass
-    pass-pre {w} a l b =
-        record { width = omega arith; disc = rw (t .disc, a) (t .turn .turned .carried .disc); dummies = omega (arith, t .few); room = omega (arith, t .meets .room) }
+    pass-pre : h .width ≤ 64 → PassPre (h .width) pass
+    pass-pre l =
+        let k : h .width - max c (cond (t .scan .dummy) (t .scan .trail) 0) ≤ h .width = omega arith in
+        record { width = l; disc = rw (t .disc) (t .turn .turned .carried .disc); limit = omega (arith, t .meets .limit, pow-mono k) }
 
     -- What is carried behind the entries, as the pass tells it.
-    pub pass-ends : {most : ℕ} → most ≡ h .width - c → {r : Scan} → r ≡ scanBehind h index page most s i pass → RowTurn (uncounted h) index keys used page c 0 count [] s [] r i
+    pub pass-ends : {most : ℕ} → suc most ≡ 2 ^ (h .width - c) → {r : Scan} → r ≡ scanBehind h index page most s i pass → RowTurn (uncounted h) index keys used page c 0 count [] s [] r i
     pass-ends {most} b {r} e = subst (λ (x : Scan). RowTurn (uncounted h) index keys used page c 0 count [] s [] x i) (go (eqb i 0) refl ∙ sym e) (t .turn)
       where
-        dummies : (dummy : Bool) → t .scan .dummy ≡ dummy → c < t .scan .trail → dummy ≡ ltb (pass .room) (h .width - c)
-        dummies true z l = sym (lt-ltb (pass .room) (h .width - c) (let m : pass .room ≡ h .width - max c (cond true (t .scan .trail) 0) = rw z at (t .meets .room) in omega (arith, t .meets .trail)))
-        dummies false z l = sym (le-ltb (pass .room) (h .width - c) (let m : pass .room ≡ h .width - max c (cond false (t .scan .trail) 0) = rw z at (t .meets .room) in omega arith))
+        dummies : (dummy : Bool) → t .scan .dummy ≡ dummy → c < t .scan .trail → dummy ≡ ltb (pass .limit) most
+        dummies true z l =
+            let m : suc (pass .limit) ≡ 2 ^ (h .width - max c (cond true (t .scan .trail) 0)) = rw z at (t .meets .limit) in
+            let k : h .width - max c (t .scan .trail) < h .width - c = omega (arith, t .meets .trail) in
+            sym (lt-ltb (pass .limit) most (omega (arith, m, pow-lt k)))
+        dummies false z l =
+            let m : suc (pass .limit) ≡ 2 ^ (h .width - max c (cond false (t .scan .trail) 0)) = rw z at (t .meets .limit) in
+            let k : max c 0 ≡ c = omega arith in
+            sym (le-ltb (pass .limit) most (omega (arith, rw k at m)))
 
         go : (k : Bool) → eqb i 0 ≡ k → t .scan ≡ scanBehind h index page most s i pass
         go true z = rw z (t .first (eqb-true i 0 z))
         go false z =
             let l : 0 < i = (let n : i ≢ 0 = eqb-false i 0 z in omega arith) in
-            rw (z, b) (scan-same (sym (t .disc)) (t .trail l .0) (dummies (t .scan .dummy) refl (t .trail l .1)) (omega (arith, t .counted)) (t .unclosed))
+            rw z (scan-same (sym (t .disc)) (t .trail l .0) (dummies (t .scan .dummy) refl (t .trail l .1)) (omega (arith, t .counted)) (t .unclosed))
 
     -- Another entry that is not the last.
-    module _ (l : i + 1 < count) {w most d p : ℕ} (a : w ≡ h .width) (b : most ≡ h .width - c) (e : d ≡ entryAt h index page i .0) (f : p ≡ entryAt h index page i .1) {r : Pass} (z : Passed w keys most pass d p r) (g : NarrowRegister (h .width) keys used) where
+    module _ (l : i + 1 < count) {most below p : ℕ} (a : h .width ≤ 64) (b : suc most ≡ 2 ^ (h .width - c)) (e : BitsBehind (h .width) (entryAt h index page i .0) below) (f : p ≡ entryAt h index page i .1) {r : Pass} (z : Passed keys most pass below p r) (g : NarrowRegister (h .width) keys used) where
       abbrev x : Ref
       x = entryAt h index page i
 
@@ -150,7 +152,7 @@ module _ {h : Index} {index keys used : List ℕ} {page c count : ℕ} {s : Scan
       Fits = entryFits (h .width) (keyAt keys) (inUse used) (t .scan .disc) (t .scan .trail) (t .scan .dummy) (x .0) (recordOf 65535 (x .1))
 
       said : PassedEntry (h .width) keys used c pass (t .scan .trail) (t .scan .dummy) (x .0) (x .1) r
-      said = passed-same a e f z used g (t .told) c b (t .scan .trail) (t .scan .dummy) (t .meets)
+      said = subst (λ (q : ℕ). Passed keys most pass below q r) f z (h .width) (x .0) (pass-pre a) e used g (t .told) c b (t .scan .trail) (t .scan .dummy) (t .meets)
 
       answer : r .ok ≡ (ltb c (x .0) && Fits)
       answer = said .verdict ∙ rw (t .disc)

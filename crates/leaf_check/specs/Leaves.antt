@@ -15,6 +15,7 @@ use Rattle.index_table.specs.Pages.{Pages, nodeAt, met, metAll}
 use Rattle.index_table.specs.Soundness.{SoundBelow}
 use Rattle.index_table.specs.declared.header.Index.{Index}
 use Rattle.bytes_check.specs.Scans.{rowsOf}
+use Rattle.leaf_check.specs.DepthTable.{DepthMasks}
 use Rattle.leaf_check.specs.declared.entries.Scan.{Scan}
 use Rattle.leaf_check.specs.declared.entries.Checked.{Checked}
 
@@ -75,9 +76,10 @@ pub record EntrySound (h : Index) (index : List ℕ) (n : ℕ) (x : Ref) (map : 
   pub once : (q : ℕ) → getD map q 0 + met n (rowsOf h index) x q ≤ 1
 
 -- What the check of a row of leaves takes.
-pub record LeavesPre (h : Index) (index keys used : List ℕ) (page : ℕ) (s : Scan) : Type 0 where
+pub record LeavesPre (h : Index) (index keys used masks : List ℕ) (page : ℕ) (s : Scan) : Type 0 where
   pub within : Within (layoutOf (h .entries)) index page
   pub few : length (rowsOf h index page) ≤ h .entries
   pub width : h .width ≤ 64
   pub register : NarrowRegister (h .width) keys used
+  pub depths : DepthMasks (h .width) masks
   pub carried : Carried (h .width) (h .held) s

@@ -1,2 +1,3 @@
+pub mod DepthTable
 pub mod Leaves
 pub mod Passes

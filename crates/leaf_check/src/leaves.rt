@@ -27,12 +27,13 @@ pub fn scan_leaves(
     index: &[u8],
     keys: &[u64],
     used: &[u8],
+    masks: &[u64],
     h: Index,
     page: PageNo,
     c: u8,
     s: Scan,
 ) -> Checked
-    requires { ⌜ LeavesPre h (now index) (now keys) (now used) (page .0) s ⌝ }
+    requires { ⌜ LeavesPre h (now index) (now keys) (now used) (now masks) (page .0) s ⌝ }
     ensures { λ r. ⌜ Scanned (RowSound h (now (index .entry)) c 0 (rowsOf h (now (index .entry)) (page .0)) []) (h .width) (now (keys .entry)) (now (used .entry)) (h .held) s (leavesOfRow 0 (rowsOf h (now (index .entry))) (rowsOf h (now (index .entry)) (page .0))) r ⌝ }
 {
     let w = wide(h.width);
@@ -46,7 +47,7 @@ pub fn scan_leaves(
         return Checked { ok: false, scan: s };
     }
     let last = n - 1;
-    let most = crate::passes::depths_above(w, close);
+    let most = crate::passes::bits_behind(w, close);
     let mut pass = crate::passes::pass_start(w, close, s);
     let first = index_table::layout::pointer(index, h.entries, page, 0);
     if !crate::passes::record_told(used, pass.disc, pass.low, first) {
@@ -54,9 +55,9 @@ pub fn scan_leaves(
     }
     let mut i: usize = 0;
     while i < last {
-        let d = wide(index_table::layout::depth(index, h.entries, page, i));
+        let d = index_table::layout::depth(index, h.entries, page, i);
         let p = index_table::layout::pointer(index, h.entries, page, i);
-        pass = crate::passes::pass_entry(w, keys, most, pass, d, p);
+        pass = crate::passes::pass_entry(keys, most, pass, masks[index_table::layout::wide(d)], p);
         if !pass.ok {
             return crate::passes::refused(pass);
         }

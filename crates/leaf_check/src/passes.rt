@@ -1,34 +1,35 @@
 // One pass over the entries of a page of level 0 but the last.
 ghost use mathlib.Core.Path.{_≡_};
-ghost use mathlib.Core.Bool.{false, cond, not, _&&_};
-ghost use Prim.Native.Nat.{suc, _-_, _≤_, _<_, _^_, max};
-ghost use lib.Bits.{bitXor};
-ghost use lib.Dec.{leb, ltb};
-ghost use Rattle.leaf_list.specs.Keys.{bitAt};
+ghost use mathlib.Core.Bool.{false, cond, _&&_};
+ghost use Prim.Native.Nat.{suc, _+_, _-_, _≤_, _<_, _^_, max};
+ghost use lib.Bits.{bitXor, bitAnd};
+ghost use lib.Dec.{eqb, leb, ltb};
 ghost use Rattle.index_table.specs.Layout.{Within, layoutOf};
-ghost use Rattle.leaf_check.specs.Passes.{Begun, PassPre, told, Passed, scanBehind};
+ghost use Rattle.leaf_check.specs.Passes.{Begun, told, Passed, scanBehind};
 use crate::entries::Checked;
 use crate::entries::Scan;
 use bytes_check::numbers::wide;
 use index_table::header::Index;
 use index_table::layout::PageNo;
-use leaf_list::bit;
 
-// What a pass carries from entry to entry: whether all fitted, the discriminator, all bits behind the depth of the last entry, how many depths
-// are left to the next, the deepest ones, and how many were dummies.
+// What a pass carries from entry to entry: whether all fitted, the discriminator, all bits behind the depth of the last entry, those behind the
+// depth that the next must pass, and how many were dummies.
 pub struct Pass {
     pub ok: bool,
     pub disc: u64,
     pub low: u64,
-    pub room: u64,
+    pub limit: u64,
     pub dummies: u64,
 }
 
-// All bits behind the first t of w.
-fn bits_behind(w: u64, t: u64) -> u64
-    requires { ⌜ (w ≤ 64) × (t ≤ w) ⌝ }
+// All bits behind the first t of w; none where t is above w.
+pub fn bits_behind(w: u64, t: u64) -> u64
+    requires { ⌜ w ≤ 64 ⌝ }
     ensures { λ r. ⌜ suc r ≡ 2 ^ (w - t) ⌝ }
 {
+    if w <= t {
+        return 0;
+    }
     let n = w - t;
     if n == 64 {
         return u64::MAX;
@@ -49,16 +50,6 @@ fn first_floor(c: u64, dummy: bool, trail: u64) -> u64
     c
 }
 
-// How many depths up to w are above c.
-pub fn depths_above(w: u64, c: u64) -> u64
-    ensures { λ r. ⌜ r ≡ w - c ⌝ }
-{
-    if w < c {
-        return 0;
-    }
-    w - c
-}
-
 // Before the first entry of a page that c closes.
 pub fn pass_start(w: u64, c: u64, s: Scan) -> Pass
     requires { ⌜ (w ≤ 64) × (s .trail ≤ w) ⌝ }
@@ -68,20 +59,19 @@ pub fn pass_start(w: u64, c: u64, s: Scan) -> Pass
         ok: true,
         disc: s.disc,
         low: bits_behind(w, s.trail),
-        room: depths_above(w, first_floor(c, s.dummy, s.trail)),
+        limit: bits_behind(w, first_floor(c, s.dummy, s.trail)),
         dummies: 0,
     }
 }
 
-// Whether a depth is among the last `room` up to w, and the discriminator's bit there is clear.
-fn depth_fits(w: u64, disc: u64, room: u64, d: u64) -> bool
-    requires { ⌜ (w ≤ 64) × (room ≤ w) ⌝ }
-    ensures { λ r. ⌜ r ≡ (ltb (w - room) d && (leb d w && not (bitAt w d disc))) ⌝ }
+// Whether a depth with the bits `below` behind it has fewer than limit, and the discriminator's bit there is clear.
+fn depth_fits(disc: u64, limit: u64, below: u64) -> bool
+    ensures { λ r. ⌜ r ≡ (ltb below limit && eqb (bitAnd disc (below + 1)) 0) ⌝ }
 {
-    if std::num::wrapping_sub_u64(w, d) >= room {
+    if below >= limit {
         return false;
     }
-    !leaf_list::bit_is_set(w, disc, d)
+    disc & (below + 1) == 0
 }
 
 // Whether the key of an entry's record tells that it is in use, or else it is: a free record's key is 0, and differs from a discriminator
@@ -121,28 +111,27 @@ fn stopped(s: Pass) -> Pass
         ok: false,
         disc: s.disc,
         low: s.low,
-        room: s.room,
+        limit: s.limit,
         dummies: s.dummies,
     }
 }
 
-// One entry behind what is carried, in a page whose last depth has `most` depths above it.
-pub fn pass_entry(w: u64, keys: &[u64], most: u64, s: Pass, d: u64, p: u32) -> Pass
-    requires { ⌜ PassPre w s ⌝ }
-    ensures { λ r. ⌜ Passed w (now (keys .entry)) most s d p r ⌝ }
+// One entry behind what is carried, with the bits `below` behind its depth, in a page with the bits `most` behind its last depth.
+pub fn pass_entry(keys: &[u64], most: u64, s: Pass, below: u64, p: u32) -> Pass
+    requires { ⌜ s .dummies < 255 ⌝ }
+    ensures { λ r. ⌜ Passed (now (keys .entry)) most s below p r ⌝ }
 {
-    if !depth_fits(w, s.disc, s.room, d) {
+    if !depth_fits(s.disc, s.limit, below) {
         return stopped(s);
     }
-    let below = bit(w, d) - 1;
-    let disc = (s.disc | below) + 1;
+    let disc = std::num::wrapping_add_u64(s.disc | below, 1);
     let r = p as usize;
     if r < keys.len() {
         return Pass {
             ok: key_fits(keys[r], s.disc, s.low, below),
             disc,
             low: below,
-            room: most,
+            limit: most,
             dummies: s.dummies,
         };
     }
@@ -151,7 +140,7 @@ pub fn pass_entry(w: u64, keys: &[u64], most: u64, s: Pass, d: u64, p: u32) -> P
             ok: false,
             disc,
             low: below,
-            room: most,
+            limit: most,
             dummies: s.dummies,
         };
     }
@@ -159,7 +148,7 @@ pub fn pass_entry(w: u64, keys: &[u64], most: u64, s: Pass, d: u64, p: u32) -> P
         ok: below < s.low,
         disc,
         low: below,
-        room: w - d,
+        limit: below,
         dummies: s.dummies + 1,
     }
 }
@@ -181,7 +170,7 @@ pub fn refused(pass: Pass) -> Checked
     }
 }
 
-// What is carried behind the first n entries of a page that c closes, once a pass went over them; `most` depths are above c.
+// What is carried behind the first n entries of a page that c closes, once a pass went over them; `most` are the bits behind c.
 pub fn scan_behind(
     index: &[u8],
     h: Index,
@@ -200,7 +189,7 @@ pub fn scan_behind(
     Scan {
         disc: pass.disc,
         trail: wide(index_table::layout::depth(index, h.entries, page, n - 1)),
-        dummy: pass.room < most,
+        dummy: pass.limit < most,
         live: s.live + (n as u64) - pass.dummies,
         closed: false,
     }

@@ -124,7 +124,7 @@ module _ (h : Index) (index : List ℕ) (n page c : ℕ) (map : List ℕ) where
 
 module _ {h : Index} {index keys used : List ℕ} {n page c : ℕ} {map : List ℕ} where
   -- A page that is refused as it is met.
-  pub walked-refused : {map₁ map′ : List ℕ} {s : Scan} {b : Bool} → WalkPre h index keys used map s → Entered h index n page map map₁ b → b ≡ false → (r : Checked) → r .ok ≡ false
+  pub walked-refused : {masks map₁ map′ : List ℕ} {s : Scan} {b : Bool} → WalkPre h index keys used masks map s → Entered h index n page map map₁ b → b ≡ false → (r : Checked) → r .ok ≡ false
       → Walked h index keys used (suc n) (c, page) map map′ s r
   walked-refused w e z r o =
       record {
@@ -133,18 +133,18 @@ module _ {h : Index} {index keys used : List ℕ} {n page c : ℕ} {map : List �
       }
 
 -- A page that was met: what the check of it took, its size, and the map with its mark.
-pub record MetPage (h : Index) (index keys used : List ℕ) (n page : ℕ) (map map₁ : List ℕ) (s : Scan) : Type 0 where
-  pub pre : WalkPre h index keys used map s
+pub record MetPage (h : Index) (index keys used masks : List ℕ) (n page : ℕ) (map map₁ : List ℕ) (s : Scan) : Type 0 where
+  pub pre : WalkPre h index keys used masks map s
   pub size : SizedPage (layoutOf (h .entries)) (h .pages) n index page
   pub unmarked : getD map page 0 ≡ 0
   pub marks : map₁ ≡ set map page 1
 
 -- It was met, as the test of it says.
-pub met-page : {h : Index} {index keys used : List ℕ} {n page : ℕ} {map map₁ : List ℕ} {s : Scan} {b : Bool} → WalkPre h index keys used map s → Entered h index n page map map₁ b → b ≡ true
-    → MetPage h index keys used n page map map₁ s
+pub met-page : {h : Index} {index keys used masks : List ℕ} {n page : ℕ} {map map₁ : List ℕ} {s : Scan} {b : Bool} → WalkPre h index keys used masks map s → Entered h index n page map map₁ b → b ≡ true
+    → MetPage h index keys used masks n page map map₁ s
 met-page w e z = record { pre = w; size = e .verdict .0 z .0; unmarked = e .verdict .0 z .1; marks = e .marks z }
 
-module _ {h : Index} {index keys used : List ℕ} {n page : ℕ} {map map₁ : List ℕ} {s : Scan} (m : MetPage h index keys used n page map map₁ s) where
+module _ {h : Index} {index keys used masks : List ℕ} {n page : ℕ} {map map₁ : List ℕ} {s : Scan} (m : MetPage h index keys used masks n page map map₁ s) where
   inside : page < length map
   inside = omega (arith, m .size .number, m .pre .long)
 
@@ -161,20 +161,21 @@ module _ {h : Index} {index keys used : List ℕ} {n page : ℕ} {map map₁ : L
   met-long = ap length (m .marks) ∙ length-set map page 1
 
   -- What the check of a row of leaves takes.
-  pub leaves-pre : LeavesPre h index keys used page s
+  pub leaves-pre : LeavesPre h index keys used masks page s
   leaves-pre =
       record {
         within = within-table (layoutOf (h .entries)) (h .pages) page index (m .pre .table) (m .size .number);
         few = m .size .few;
         width = m .pre .width;
         register = m .pre .register;
+        depths = m .pre .depths;
         carried = m .pre .carried;
       }
 
   -- What the check of a child takes.
-  pub walk-on : (map′ : List ℕ) (s′ : Scan) → length map′ ≡ length map₁ → ((q : ℕ) → getD map′ q 0 ≤ 1) → Carried (h .width) (h .held) s′ → WalkPre h index keys used map′ s′
+  pub walk-on : (map′ : List ℕ) (s′ : Scan) → length map′ ≡ length map₁ → ((q : ℕ) → getD map′ q 0 ≤ 1) → Carried (h .width) (h .held) s′ → WalkPre h index keys used masks map′ s′
   walk-on map′ s′ l k b =
-      record { table = m .pre .table; width = m .pre .width; register = m .pre .register; carried = b; long = omega (arith, m .pre .long, met-long); marked = k }
+      record { table = m .pre .table; width = m .pre .width; register = m .pre .register; depths = m .pre .depths; carried = b; long = omega (arith, m .pre .long, met-long); marked = k }
 
   -- By the answer on its row.
   module _ {c : ℕ} where

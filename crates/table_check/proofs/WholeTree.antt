@@ -22,6 +22,7 @@ use Rattle.index_table.proofs.PageRows.{length-refs}
 use Rattle.index_table.proofs.Frames.{refs-beyond}
 use Rattle.bytes_check.specs.Scans.{PageCleared, rowsOf}
 use Rattle.leaf_check.specs.Leaves.{Passing, leavesBelow, EntrySound}
+use Rattle.leaf_check.specs.DepthTable.{DepthMasks}
 use Rattle.table_check.specs.Walks.{WalkPre, Walked}
 use Rattle.table_check.specs.Trees.{TreePre, TreeSound, PagesSound, levelOfRoot}
 use Rattle.leaf_check.specs.declared.entries.Scan.{Scan}
@@ -73,12 +74,13 @@ abbrev startScan : Scan
 startScan = record { disc = 0; trail = 0; dummy = false; live = 0; closed = false }
 
 -- What the check of the root takes.
-pub walk-start : (h : Index) (index keys used map : List ℕ) → TreePre h index keys used → h .pages ≤ length map → ((q : ℕ) → getD map q 0 ≡ 0) → WalkPre h index keys used map startScan
-walk-start h index keys used map p l z =
+pub walk-start : (h : Index) (index keys used masks map : List ℕ) → TreePre h index keys used → DepthMasks (h .width) masks → h .pages ≤ length map → ((q : ℕ) → getD map q 0 ≡ 0) → WalkPre h index keys used masks map startScan
+walk-start h index keys used masks map p d l z =
     record {
       table = omega (arith, p .table);
       width = p .width;
       register = p .register;
+      depths = d;
       carried = record { disc = pow-pos (h .width); trail = omega arith; live = omega arith };
       long = l;
       marked = λ q. omega (arith, z q);

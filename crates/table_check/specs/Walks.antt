@@ -10,15 +10,17 @@ use Rattle.index_table.specs.Pages.{met}
 use Rattle.index_table.specs.Soundness.{SizedPage}
 use Rattle.index_table.specs.declared.header.Index.{Index}
 use Rattle.bytes_check.specs.Scans.{rowsOf}
+use Rattle.leaf_check.specs.DepthTable.{DepthMasks}
 use Rattle.leaf_check.specs.Leaves.{NarrowRegister, Carried, Scanned, leavesBelow, EntrySound}
 use Rattle.leaf_check.specs.declared.entries.Scan.{Scan}
 use Rattle.leaf_check.specs.declared.entries.Checked.{Checked}
 
 -- What the check of a page takes: the table and the register are as long as the header says, and map has a mark of 0 or 1 for each page.
-pub record WalkPre (h : Index) (index keys used : List ℕ) (map : List ℕ) (s : Scan) : Type 0 where
+pub record WalkPre (h : Index) (index keys used masks map : List ℕ) (s : Scan) : Type 0 where
   pub table : pageStart (layoutOf (h .entries)) (h .pages) ≤ length index
   pub width : h .width ≤ 64
   pub register : NarrowRegister (h .width) keys used
+  pub depths : DepthMasks (h .width) masks
   pub carried : Carried (h .width) (h .held) s
   pub long : h .pages ≤ length map
   pub marked : (q : ℕ) → getD map q 0 ≤ 1

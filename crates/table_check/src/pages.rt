@@ -51,6 +51,7 @@ pub fn page_ok(
     index: &[u8],
     keys: &[u64],
     used: &[u8],
+    masks: &[u64],
     map: &mut [u8],
     h: Index,
     level: u8,
@@ -58,14 +59,14 @@ pub fn page_ok(
     c: u8,
     s: Scan,
 ) -> Checked
-    requires { ⌜ WalkPre h (now index) (now keys) (now used) (now map) s ⌝ }
+    requires { ⌜ WalkPre h (now index) (now keys) (now used) (now masks) (now map) s ⌝ }
     ensures { λ r. ⌜ Walked h (now (index .entry)) (now (keys .entry)) (now (used .entry)) (suc level) (c, page .0) (now (map .entry)) (now (map .exit)) s r ⌝ }
 {
     if !enter(index, map, h, level, page) {
         return Checked { ok: false, scan: s };
     }
     if level == 0 {
-        return leaf_check::leaves::scan_leaves(index, keys, used, h, page, c, s);
+        return leaf_check::leaves::scan_leaves(index, keys, used, masks, h, page, c, s);
     }
     let n = index_table::layout::wide(index_table::layout::count(index, h.entries, page));
     let mut scan = s;
@@ -76,7 +77,7 @@ pub fn page_ok(
             return Checked { ok: false, scan };
         }
         let child = index_table::layout::child(index, h.entries, page, i);
-        let next = child_ok(index, keys, used, map, h, level, child, d, scan);
+        let next = child_ok(index, keys, used, masks, map, h, level, child, d, scan);
         if !next.ok {
             return next;
         }
@@ -91,6 +92,7 @@ fn child_ok(
     index: &[u8],
     keys: &[u64],
     used: &[u8],
+    masks: &[u64],
     map: &mut [u8],
     h: Index,
     level: u8,
@@ -98,8 +100,8 @@ fn child_ok(
     c: u8,
     s: Scan,
 ) -> Checked
-    requires { ⌜ WalkPre h (now index) (now keys) (now used) (now map) s × (0 < level) ⌝ }
+    requires { ⌜ WalkPre h (now index) (now keys) (now used) (now masks) (now map) s × (0 < level) ⌝ }
     ensures { λ r. ⌜ Walked h (now (index .entry)) (now (keys .entry)) (now (used .entry)) level (c, page .0) (now (map .entry)) (now (map .exit)) s r ⌝ }
 {
-    page_ok(index, keys, used, map, h, level - 1, page, c, s)
+    page_ok(index, keys, used, masks, map, h, level - 1, page, c, s)
 }

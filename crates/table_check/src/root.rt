@@ -6,7 +6,9 @@ ghost use Prim.Native.Nat.{ℕ, _≤_};
 ghost use lib.ListN.{length, getD};
 ghost use Rattle.index_table.specs.Layout.{layoutOf, Within};
 ghost use Rattle.bytes_check.specs.Scans.{rowsOf};
+ghost use Rattle.leaf_check.specs.DepthTable.{DepthMasks};
 ghost use Rattle.table_check.specs.Trees.{TreePre, TreeSound, PagesSound};
+use bytes_check::numbers::wide;
 use bytes_check::numbers::wide16;
 use index_table::header::Index;
 use leaf_check::entries::Scan;
@@ -27,8 +29,16 @@ fn root_fits(index: &[u8], h: Index, level: u8) -> bool
 }
 
 // The tree below the root, marked in the map, and then every page against its mark.
-fn tree_marked(index: &[u8], keys: &[u64], used: &[u8], map: &mut [u8], h: Index, level: u8) -> bool
-    requires { ⌜ TreePre h (now index) (now keys) (now used) × (h .pages ≤ length (now map)) × ((q : ℕ) → getD (now map) q 0 ≡ 0) ⌝ }
+fn tree_marked(
+    index: &[u8],
+    keys: &[u64],
+    used: &[u8],
+    masks: &[u64],
+    map: &mut [u8],
+    h: Index,
+    level: u8,
+) -> bool
+    requires { ⌜ TreePre h (now index) (now keys) (now used) × (h .pages ≤ length (now map)) × ((q : ℕ) → getD (now map) q 0 ≡ 0) × DepthMasks (h .width) (now masks) ⌝ }
     ensures { λ r. ⌜ (r ≡ true) ↔ TreeSound h (now (index .entry)) (now (keys .entry)) (now (used .entry)) level ⌝ }
 {
     let start = Scan {
@@ -39,7 +49,7 @@ fn tree_marked(index: &[u8], keys: &[u64], used: &[u8], map: &mut [u8], h: Index
         closed: false,
     };
     let root = h.root;
-    let end = crate::pages::page_ok(index, keys, used, map, h, level, root, 0, start);
+    let end = crate::pages::page_ok(index, keys, used, masks, map, h, level, root, 0, start);
     if !end.ok {
         return false;
     }
@@ -54,32 +64,48 @@ fn tree_marked(index: &[u8], keys: &[u64], used: &[u8], map: &mut [u8], h: Index
 }
 
 // The same, with a map of its own for at most 1,024 pages.
-fn small_tree_sound(index: &[u8], keys: &[u64], used: &[u8], h: Index, level: u8) -> bool
-    requires { ⌜ TreePre h (now index) (now keys) (now used) × (h .pages ≤ 1024) ⌝ }
+fn small_tree_sound(
+    index: &[u8],
+    keys: &[u64],
+    used: &[u8],
+    masks: &[u64],
+    h: Index,
+    level: u8,
+) -> bool
+    requires { ⌜ TreePre h (now index) (now keys) (now used) × (h .pages ≤ 1024) × DepthMasks (h .width) (now masks) ⌝ }
     ensures { λ r. ⌜ (r ≡ true) ↔ TreeSound h (now (index .entry)) (now (keys .entry)) (now (used .entry)) level ⌝ }
 {
     let mut map = [0u8; 1024];
-    tree_marked(index, keys, used, &mut map, h, level)
+    tree_marked(index, keys, used, masks, &mut map, h, level)
 }
 
 // The same, with a map for as many as there may be.
-fn large_tree_sound(index: &[u8], keys: &[u64], used: &[u8], h: Index, level: u8) -> bool
-    requires { ⌜ TreePre h (now index) (now keys) (now used) ⌝ }
+fn large_tree_sound(
+    index: &[u8],
+    keys: &[u64],
+    used: &[u8],
+    masks: &[u64],
+    h: Index,
+    level: u8,
+) -> bool
+    requires { ⌜ TreePre h (now index) (now keys) (now used) × DepthMasks (h .width) (now masks) ⌝ }
     ensures { λ r. ⌜ (r ≡ true) ↔ TreeSound h (now (index .entry)) (now (keys .entry)) (now (used .entry)) level ⌝ }
 {
     let mut map = [0u8; 65536];
-    tree_marked(index, keys, used, &mut map, h, level)
+    tree_marked(index, keys, used, masks, &mut map, h, level)
 }
 
-// The tree below the root; a map of 65,536 bytes takes longer to clear than a small tree to check.
+// The tree below the root, with the bits behind each depth; a map of 65,536 bytes takes longer to clear than a small tree to check.
 fn tree_sound(index: &[u8], keys: &[u64], used: &[u8], h: Index, level: u8) -> bool
     requires { ⌜ TreePre h (now index) (now keys) (now used) ⌝ }
     ensures { λ r. ⌜ (r ≡ true) ↔ TreeSound h (now (index .entry)) (now (keys .entry)) (now (used .entry)) level ⌝ }
 {
+    let mut masks = [u64::MAX; 256];
+    leaf_check::masks::set_masks(wide(h.width), &mut masks);
     if h.pages <= 1024 {
-        return small_tree_sound(index, keys, used, h, level);
+        return small_tree_sound(index, keys, used, &masks, h, level);
     }
-    large_tree_sound(index, keys, used, h, level)
+    large_tree_sound(index, keys, used, &masks, h, level)
 }
 
 // Whether the pages are sound, and the entries on level 0 pass.

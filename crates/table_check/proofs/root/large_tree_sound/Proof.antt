@@ -9,7 +9,7 @@ slice-aggregate-tree-marked : tie.Need-slice-aggregate-tree-marked
 slice-aggregate-tree-marked c = search needs
 
 tree-marked-requires : tie.Need-tree-marked-requires
-tree-marked-requires c κs = (c .before .before .before .before .pre, omega arith, no-marks 65536)
+tree-marked-requires c κs = (c .before .before .before .before .before .pre .0, omega arith, no-marks 65536, c .before .before .before .before .before .pre .1)
 
 returns : tie.Need-returns
 returns c = search needs

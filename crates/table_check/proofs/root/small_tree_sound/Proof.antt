@@ -8,7 +8,7 @@ slice-aggregate-tree-marked : tie.Need-slice-aggregate-tree-marked
 slice-aggregate-tree-marked c = search needs
 
 tree-marked-requires : tie.Need-tree-marked-requires
-tree-marked-requires c κs = (c .before .before .before .before .pre .0, c .before .before .before .before .pre .1, no-marks 1024)
+tree-marked-requires c κs = (c .before .before .before .before .before .pre .0, c .before .before .before .before .before .pre .1, no-marks 1024, c .before .before .before .before .before .pre .2)
 
 returns : tie.Need-returns
 returns c = search needs
