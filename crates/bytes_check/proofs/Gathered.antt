@@ -3,7 +3,7 @@ use mathlib.Core.Path.{_≡_, refl, sym, ap, subst, _∙_}
 use mathlib.Core.Logic.{_↔_, _⊎_, inl, inr}
 use mathlib.Core.Bool.{Bool, true, false, cond, true≢false}
 use mathlib.Core.List.{List, [], _∷_}
-use Prim.Native.Nat.{ℕ, zero, suc, _+_, _-_, _*_, _%_, _^_, _≤_, _<_}
+use Prim.Native.Nat.{ℕ, zero, suc, _+_, _-_, _%_, _^_, _≤_, _<_}
 use native.Mathlib.Omega.{arith}
 use lib.Dec.{eqb}
 use lib.Bits.{bitOr, bitAnd, or-add-and, and-le-r, and-le-l, or-lt, and-zero-r, and-mask}
@@ -16,6 +16,8 @@ use native.Mathlib.Nat.{mod-eq-of-lt}
 use Rattle.leaf_list.specs.Register.{countInUse}
 use Rattle.index_table.specs.Soundness.{SoundRecord}
 use Rattle.bytes_check.specs.Scans.{ZeroBetween, SmallBytes, SoundRecords, Tallied}
+use Rattle.bytes_check.specs.Gatherings.{UsedBetween, fourKeys, Gathered}
+use Rattle.bytes_check.specs.declared.register.Gathering.{Gathering}
 
 -- Both parts of an or are at most the whole.
 pub or-left : (a b : ℕ) → a ≤ bitOr a b
@@ -63,14 +65,8 @@ sound-bits (suc zero) key x k l e b =
     ((λ q i. absurd (omega arith)), (λ q. z))
 sound-bits (suc (suc byte)) key x k l e b = absurd (omega arith)
 
--- The records before i, as a pass has gathered them.
-pub record Gathered (keys used : List ℕ) (keys-or odd held i : ℕ) : Type 0 where
-  pub widths : (m : ℕ) → (keys-or < 2 ^ m) ↔ ((r : ℕ) → r < i → getD keys r 0 < 2 ^ m)
-  pub records : (odd ≡ 0) ↔ ((r : ℕ) → r < i → getD used r 0 ≡ 0 → getD keys r 0 ≡ 0)
-  pub count : held ≡ countInUse (take i used)
-  pub small : held ≤ 255 * i
-
-pub gathered-none : (keys used : List ℕ) → Gathered keys used 0 0 0 0
+-- Nothing is gathered of no records.
+pub gathered-none : (keys used : List ℕ) → Gathered keys used 0 (record { keys = 0; odd = 0; held = 0 })
 gathered-none keys used =
     record {
       widths = λ m. ((λ h r l. absurd (omega arith)), (λ f. pow-pos m));
@@ -97,34 +93,69 @@ count-more (u ∷ us) (suc i) h l =
     go true q = omega arith
     go false q = q
 
--- One record more: u is its byte, and x that byte less 1, wrapped.
-pub gathered-more : (keys used : List ℕ) (keys-or odd held i u x : ℕ) → i < length used → getD keys i 0 < 2 ^ 64 → u ≡ getD used i 0 → u < 256 → x < 2 ^ 64 → (x + 1) % 2 ^ 64 ≡ u
-    → getD used i 0 ≤ 1 → Gathered keys used keys-or odd held i → Gathered keys used (bitOr keys-or (getD keys i 0)) (bitOr odd (bitAnd (getD keys i 0) x)) (held + u) (i + 1)
-gathered-more keys used keys-or odd held i u x h kh uh us xh e small g =
-    record {
-      widths = λ m. (
-        (λ q. below-more (λ r. getD keys r 0 < 2 ^ m) i (g .widths m .0 (omega (arith, or-left keys-or (getD keys i 0)))) (omega (arith, or-right keys-or (getD keys i 0)))),
-        (λ f. or-lt m keys-or (getD keys i 0) (g .widths m .1 (λ r l. f r (omega arith))) (f i (omega arith))),
-      );
-      records = (
-        (λ q. below-more Good i (g .records .0 (omega (arith, or-left odd mark))) (good (bits .0 (omega (arith, or-right odd mark))))),
-        (λ f. or-zero odd mark (g .records .1 (λ r l. f r (omega arith))) (bits .1 (subst (λ (y : ℕ). y ≡ 0 → getD keys i 0 ≡ 0) (sym uh) (f i (omega arith))))),
-      );
-      count = omega (arith, g .count, count-more used i h small);
-      small = omega (arith, g .small);
-    }
-  where
-    mark : ℕ
-    mark = bitAnd (getD keys i 0) x
+module _ (keys used : List ℕ) (i : ℕ) (inside : i < length used) where
+  -- One key more among the bits of all.
+  widths-more : {g : Gathering} → Gathered keys used i g → (m : ℕ) → (bitOr (g .keys) (getD keys i 0) < 2 ^ m) ↔ ((r : ℕ) → r < i + 1 → getD keys r 0 < 2 ^ m)
+  widths-more {g} h m = (
+    (λ q. below-more (λ r. getD keys r 0 < 2 ^ m) i (h .widths m .0 (omega (arith, or-left (g .keys) (getD keys i 0)))) (omega (arith, or-right (g .keys) (getD keys i 0)))),
+    (λ f. or-lt m (g .keys) (getD keys i 0) (h .widths m .1 (λ r l. f r (omega arith))) (f i (omega arith))),
+  )
 
-    Good : ℕ → Type 0
-    Good r = getD used r 0 ≡ 0 → getD keys r 0 ≡ 0
+  -- One record more: u is its byte, and x that byte less 1, wrapped.
+  pub gathered-more : {g : Gathering} (u x : ℕ) → getD keys i 0 < 2 ^ 64 → u ≡ getD used i 0 → u ≤ 1 → x < 2 ^ 64 → (x + 1) % 2 ^ 64 ≡ u → Gathered keys used i g
+      → Gathered keys used (i + 1) (record { keys = bitOr (g .keys) (getD keys i 0); odd = bitOr (g .odd) (bitAnd (getD keys i 0) x); held = g .held + u })
+  gathered-more {g} u x kh uh us xh e h =
+      record {
+        widths = widths-more h;
+        records = (
+          (λ q. below-more Good i (h .records .0 (omega (arith, or-left (g .odd) mark))) (good (bits .0 (omega (arith, or-right (g .odd) mark))))),
+          (λ f. or-zero (g .odd) mark (h .records .1 (λ r l. f r (omega arith))) (bits .1 (subst (λ (y : ℕ). y ≡ 0 → getD keys i 0 ≡ 0) (sym uh) (f i (omega arith))))),
+        );
+        count = omega (arith, h .count, count-more used i inside (omega arith));
+        small = omega (arith, h .small);
+      }
+    where
+      mark : ℕ
+      mark = bitAnd (getD keys i 0) x
 
-    bits : (mark ≡ 0) ↔ (u ≡ 0 → getD keys i 0 ≡ 0)
-    bits = sound-bits u (getD keys i 0) x kh xh e (omega arith)
+      Good : ℕ → Type 0
+      Good r = getD used r 0 ≡ 0 → getD keys r 0 ≡ 0
 
-    good : (u ≡ 0 → getD keys i 0 ≡ 0) → Good i
-    good = subst (λ (y : ℕ). y ≡ 0 → getD keys i 0 ≡ 0) uh
+      bits : (mark ≡ 0) ↔ (u ≡ 0 → getD keys i 0 ≡ 0)
+      bits = sound-bits u (getD keys i 0) x kh xh e us
+
+      good : (u ≡ 0 → getD keys i 0 ≡ 0) → Good i
+      good = subst (λ (y : ℕ). y ≡ 0 → getD keys i 0 ≡ 0) uh
+
+  -- One record more that is in use: nothing odd. j is the place behind it, n the new count.
+  pub gathered-used : {g : Gathering} (j n : ℕ) → j ≡ i + 1 → n ≡ g .held + 1 → getD used i 0 ≡ 1 → Gathered keys used i g
+      → Gathered keys used j (record { keys = bitOr (g .keys) (getD keys i 0); odd = g .odd; held = n })
+  gathered-used {g} j n p q u h = rw (p, q) record {
+    widths = widths-more h;
+    records = (
+      (λ z. below-more (λ r. getD used r 0 ≡ 0 → getD keys r 0 ≡ 0) i (h .records .0 z) (λ f. absurd (omega arith))),
+      (λ f. h .records .1 (λ r l. f r (omega arith))),
+    );
+    count = omega (arith, h .count, count-more used i inside (omega arith));
+    small = omega (arith, h .small);
+  }
+
+-- Four records more, all in use.
+pub gathered-four : (keys used : List ℕ) {g : Gathering} (i n : ℕ) → i + 4 ≤ length used → n ≡ g .held + 4 → UsedBetween i (i + 4) used → Gathered keys used i g
+    → Gathered keys used (i + 4) (record { keys = fourKeys keys i (g .keys); odd = g .odd; held = n })
+gathered-four keys used {g} i n l q u h =
+    gathered-used keys used (i + 3) (omega arith) (i + 4) n (omega arith) (omega arith) (u (i + 3) (omega arith) (omega arith))
+    (gathered-used keys used (i + 2) (omega arith) (i + 3) (g .held + 3) (omega arith) (omega arith) (u (i + 2) (omega arith) (omega arith))
+    (gathered-used keys used (i + 1) (omega arith) (i + 2) (g .held + 2) (omega arith) (omega arith) (u (i + 1) (omega arith) (omega arith))
+    (gathered-used keys used i (omega arith) (i + 1) (g .held + 1) refl refl (u i (omega arith) (omega arith)) h)))
+
+-- Eight records more, all in use: k has the bits of the first four keys, m those of all eight.
+pub gathered-eight : (keys used : List ℕ) {g : Gathering} (i k m : ℕ) → i + 8 ≤ length used → k ≡ fourKeys keys i (g .keys) → m ≡ fourKeys keys (i + 4) k → UsedBetween i (i + 8) used
+    → Gathered keys used i g → Gathered keys used (i + 8) (record { keys = m; odd = g .odd; held = g .held + 8 })
+gathered-eight keys used {g} i k m l p q u h =
+    let four = gathered-four keys used i (g .held + 4) (omega arith) refl (λ r a b. u r a (omega arith)) h in
+    let e : i + 4 + 4 ≡ i + 8 = omega arith in
+    rw (q, p, ← e) (gathered-four keys used (i + 4) (g .held + 8) (omega arith) (omega arith) (λ r a b. u r (omega arith) (omega arith)) four)
 
 -- At the end: every record is sound exactly if nothing odd was gathered and no key is too wide.
 zero-or-one : (u : ℕ) → u ≤ 1 → (u ≡ 0) ⊎ (u ≡ 1)
@@ -132,17 +163,14 @@ zero-or-one zero h = inl refl
 zero-or-one (suc zero) h = inr refl
 zero-or-one (suc (suc u)) h = absurd (omega arith)
 
-pub gathered-sound : (w : ℕ) (keys used : List ℕ) (keys-or odd held i : ℕ) → length used ≤ i → i ≤ length used → SmallBytes (length used) used → Gathered keys used keys-or odd held i
-    → ((odd ≡ 0) × (keys-or < 2 ^ w)) ↔ SoundRecords w keys used
-gathered-sound w keys used keys-or odd held i h l′ small g′ = (
+pub gathered-sound : (w : ℕ) (keys used : List ℕ) {g : Gathering} → SmallBytes (length used) used → Gathered keys used (length used) g
+    → ((g .odd ≡ 0) × (g .keys < 2 ^ w)) ↔ SoundRecords w keys used
+gathered-sound w keys used small h = (
   (λ q r l.
-      record { byte = zero-or-one (getD used r 0) (small r l); free = g .records .0 (q .0) r l; narrow = λ e. g .widths w .0 (q .1) r l }),
-  (λ f. (g .records .1 (λ r l. f r l .free), g .widths w .1 (λ r l. narrow (f r l .byte) (f r l)))),
+      record { byte = zero-or-one (getD used r 0) (small r l); free = h .records .0 (q .0) r l; narrow = λ e. h .widths w .0 (q .1) r l }),
+  (λ f. (h .records .1 (λ r l. f r l .free), h .widths w .1 (λ r l. narrow (f r l .byte) (f r l)))),
 )
   where
-    g : Gathered keys used keys-or odd held (length used)
-    g = let e : i ≡ length used = omega arith in subst (Gathered keys used keys-or odd held) e g′
-
     narrow : {k u : ℕ} → (u ≡ 0) ⊎ (u ≡ 1) → SoundRecord w k u → k < 2 ^ w
     narrow (inl e) s = omega (arith, s .free e, pow-pos w)
     narrow (inr e) s = s .narrow e
@@ -158,14 +186,14 @@ sound-small w keys used s r l = go (s r l .byte)
 pub tallied-no : (w : ℕ) (keys used : List ℕ) (held : ℕ) → (SoundRecords w keys used → ⊥) → Tallied w keys used (record { fits = false; held = held })
 tallied-no w keys used held h = record { fits = ((λ e. absurd (true≢false (sym e))), (λ s. absurd (h s))); held = λ e. absurd (true≢false (sym e)) }
 
-pub tallied-yes : (w : ℕ) (keys used : List ℕ) (keys-or odd held i : ℕ) → length used ≤ i → i ≤ length used → odd ≡ 0 → keys-or < 2 ^ w
-    → SmallBytes (length used) used → Gathered keys used keys-or odd held i → Tallied w keys used (record { fits = true; held = held })
-tallied-yes w keys used keys-or odd held i h l o k small g =
+pub tallied-yes : (w : ℕ) (keys used : List ℕ) {g : Gathering} → g .odd ≡ 0 → g .keys < 2 ^ w → SmallBytes (length used) used → Gathered keys used (length used) g
+    → Tallied w keys used (record { fits = true; held = g .held })
+tallied-yes w keys used o k small h =
     record {
-      fits = ((λ t. gathered-sound w keys used keys-or odd held i h l small g .0 (o, k)), (λ s. refl));
-      held = λ t. g .count ∙ ap countInUse (take-all i used h);
+      fits = ((λ t. gathered-sound w keys used small h .0 (o, k)), (λ s. refl));
+      held = λ t. h .count ∙ ap countInUse (take-all (length used) used (omega arith));
     }
 
-pub tallied-wide : (w : ℕ) (keys used : List ℕ) (keys-or odd held i : ℕ) → length used ≤ i → i ≤ length used → 2 ^ w ≤ keys-or → SmallBytes (length used) used → Gathered keys used keys-or odd held i
-    → Tallied w keys used (record { fits = false; held = held })
-tallied-wide w keys used keys-or odd held i h l k small g = tallied-no w keys used held (λ s. omega (arith, gathered-sound w keys used keys-or odd held i h l small g .1 s .1))
+pub tallied-wide : (w : ℕ) (keys used : List ℕ) {g : Gathering} → 2 ^ w ≤ g .keys → SmallBytes (length used) used → Gathered keys used (length used) g
+    → Tallied w keys used (record { fits = false; held = g .held })
+tallied-wide w keys used {g} k small h = tallied-no w keys used (g .held) (λ s. omega (arith, gathered-sound w keys used small h .1 s .1))

@@ -1,4 +1,5 @@
 pub mod Iff
 pub mod Gathered
+pub mod UsedBytes
 pub mod ZeroBytes
 pub mod Headers
