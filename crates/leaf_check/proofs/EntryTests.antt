@@ -43,18 +43,21 @@ isNil-record p = go (eqb p 65535)
 
 -- ---- an answer
 
+pub one-fault : _≢_ {A = ℕ} 1 0
+one-fault z = omega arith
+
 module _ {More : Type 0} {w : ℕ} {keys used : List ℕ} {held : ℕ} {s : Scan} {es : List Entry} where
   -- No, where what is asked cannot all hold.
-  pub scanned-no : (r : Checked) → r .ok ≡ false → (More → Passing w keys used held (stateOf s) es → ⊥) → Scanned More w keys used held s es r
+  pub scanned-no : (r : Checked) → r .faults ≢ 0 → (More → Passing w keys used held (stateOf s) es → ⊥) → Scanned More w keys used held s es r
   scanned-no r e h =
       record {
-        verdict = ((λ t. absurd (true≢false (sym t ∙ e))), (λ m. absurd (h (m .0) (m .1))));
-        state = λ t. absurd (true≢false (sym t ∙ e));
-        carried = λ t. absurd (true≢false (sym t ∙ e));
+        verdict = ((λ t. absurd (e t)), (λ m. absurd (h (m .0) (m .1))));
+        state = λ t. absurd (e t);
+        carried = λ t. absurd (e t);
       }
 
   -- Yes, with what is carried on.
-  pub scanned-yes : (r : Checked) → r .ok ≡ true → More → Passing w keys used held (stateOf s) es → stateOf (r .scan) ≡ run w (keyAt keys) (inUse used) (stateOf s) es → Carried w held (r .scan)
+  pub scanned-yes : (r : Checked) → r .faults ≡ 0 → More → Passing w keys used held (stateOf s) es → stateOf (r .scan) ≡ run w (keyAt keys) (inUse used) (stateOf s) es → Carried w held (r .scan)
       → Scanned More w keys used held s es r
   scanned-yes r o m h e b = record { verdict = ((λ t. (m, h)), (λ t. o)); state = λ t. e; carried = λ t. b }
 
@@ -68,19 +71,19 @@ module _ (w : ℕ) (keys used : List ℕ) (held : ℕ) (s : Scan) (d p : ℕ) wh
   Fits = entryFits w (keyAt keys) (inUse used) (s .disc) (s .trail) (s .dummy) d (recordOf 65535 p)
 
   -- Nothing fits behind the closing entry.
-  pub entry-closed : s .closed ≡ true → One (record { ok = false; scan = s })
-  entry-closed h = scanned-no _ refl (λ m q. true≢false (sym (q .fits) ∙ ap (λ (b : Bool). not b && Fits) h))
+  pub entry-closed : s .closed ≡ true → One (record { faults = 1; scan = s })
+  entry-closed h = scanned-no _ one-fault (λ m q. true≢false (sym (q .fits) ∙ ap (λ (b : Bool). not b && Fits) h))
 
   -- An entry that does not fit is refused.
-  pub entry-refused : s .closed ≡ false → Fits ≡ false → One (record { ok = false; scan = s })
-  entry-refused h g = scanned-no _ refl (λ m q. true≢false (sym (q .fits) ∙ ap (λ (b : Bool). not b && Fits) h ∙ g))
+  pub entry-refused : s .closed ≡ false → Fits ≡ false → One (record { faults = 1; scan = s })
+  entry-refused h g = scanned-no _ one-fault (λ m q. true≢false (sym (q .fits) ∙ ap (λ (b : Bool). not b && Fits) h ∙ g))
 
   live-one : (b : Bool) → eqb p 65535 ≡ b → run w (keyAt keys) (inUse used) (stateOf s) (entry d (recordOf 65535 p) ∷ []) .live ≡ cond b (s .live) (suc (s .live))
   live-one b h = ap (λ (t : Bool). cond t (s .live) (suc (s .live))) (isNil-record p ∙ h)
 
   -- An entry that is live beyond the records held is refused.
-  pub entry-beyond : (not (eqb p 65535) && leb held (s .live)) ≡ true → One (record { ok = false; scan = s })
-  entry-beyond h = scanned-no _ refl (λ m q. go (eqb p 65535) refl h (q .few))
+  pub entry-beyond : (not (eqb p 65535) && leb held (s .live)) ≡ true → One (record { faults = 1; scan = s })
+  entry-beyond h = scanned-no _ one-fault (λ m q. go (eqb p 65535) refl h (q .few))
     where
       go : (b : Bool) → eqb p 65535 ≡ b → (not b && leb held (s .live)) ≡ true → run w (keyAt keys) (inUse used) (stateOf s) (entry d (recordOf 65535 p) ∷ []) .live ≤ held → ⊥
       go true e t l = true≢false (sym t)
@@ -106,13 +109,13 @@ module _ (w : ℕ) (keys used : List ℕ) (held : ℕ) (s : Scan) (d p : ℕ) wh
     behind disc closed h g = rw (h, g, counted, all-fits, isNil-record p)
 
     -- The closing entry, and what is carried behind it.
-    pub entry-last : d ≡ 0 → One (record { ok = true; scan = record { disc = 0; trail = 0; dummy = eqb p 65535; live = live; closed = true } })
+    pub entry-last : d ≡ 0 → One (record { faults = 0; scan = record { disc = 0; trail = 0; dummy = eqb p 65535; live = live; closed = true } })
     entry-last z =
         scanned-yes _ refl tt one-passes (ap (λ (t : ℕ). stateOf (record { disc = 0; trail = t; dummy = eqb p 65535; live = live; closed = true })) (sym z)
         ∙ behind 0 true (rw (eq-eqb d 0 z)) (rw (eq-eqb d 0 z))) (record { disc = pow-pos w; trail = omega arith; live = live-few })
 
     -- Any other entry, and what is carried behind it.
-    pub entry-next : d ≢ 0 → (disc : ℕ) → disc ≡ setBitAt w d (s .disc) → disc < 2 ^ w → One (record { ok = true; scan = record { disc = disc; trail = d; dummy = eqb p 65535; live = live; closed = false } })
+    pub entry-next : d ≢ 0 → (disc : ℕ) → disc ≡ setBitAt w d (s .disc) → disc < 2 ^ w → One (record { faults = 0; scan = record { disc = disc; trail = d; dummy = eqb p 65535; live = live; closed = false } })
     entry-next n disc e l =
         scanned-yes _ refl tt one-passes (behind disc false (rw (ne-eqb d 0 n) e) (rw (ne-eqb d 0 n)))
         (record { disc = l; trail = fits-depth w (keyAt keys) (inUse used) (s .disc) (s .trail) (s .dummy) d (recordOf 65535 p) fits; live = live-few })

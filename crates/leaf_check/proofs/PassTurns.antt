@@ -23,7 +23,7 @@ use Rattle.leaf_check.specs.Passes.{Meets, Begun, PassPre, told, PassedE
 use Rattle.leaf_check.specs.declared.entries.Scan.{Scan}
 use Rattle.leaf_check.specs.declared.entries.Checked.{Checked}
 use Rattle.leaf_check.specs.declared.passes.Pass.{Pass}
-use Rattle.leaf_check.proofs.EntryTests.{record-free, entry-refused, entry-next}
+use Rattle.leaf_check.proofs.EntryTests.{record-free, entry-refused, entry-next, one-fault}
 use Rattle.leaf_check.proofs.PassTests.{both}
 use Rattle.leaf_check.proofs.RowTurns.{RowTurn, entryAt, entry-few, row-depth, row-entry, row-more, leaf-sound, leaf-marks}
 use Rattle.leaf_check.proofs.UncountedTurns.{uncounted, refused-uncounted}
@@ -90,10 +90,10 @@ module _ {h : Index} {index keys used : List ℕ} {page c count : ℕ} {s : Scan
 
   -- A page is refused whose first entry has a free record that its key does not tell.
   pub first-stops : RowTurn (uncounted h) index keys used page c 0 count [] s [] s 0 → s .closed ≡ false → 0 < count → (disc low : ℕ) → told disc low used (entryAt h index page 0 .1) ≡ false → h .held ≤ countless
-      → (q : Checked) → q .ok ≡ false → Scanned (RowSound h index c 0 (rowsOf h index page) []) (h .width) keys used (h .held) s (leavesOfRow 0 (rowsOf h index) (rowsOf h index page)) q
+      → (q : Checked) → q .faults ≢ 0 → Scanned (RowSound h index c 0 (rowsOf h index page) []) (h .width) keys used (h .held) s (leavesOfRow 0 (rowsOf h index) (rowsOf h index page)) q
   first-stops t u l disc low z m q n =
-      refused-uncounted m refl
-      (row-entry t (omega arith) (leaf-sound x _ _ _ _ refl refl refl refl (entry-refused (h .width) keys used countless s (x .0) (x .1) u free)) refl) q n
+      refused-uncounted m one-fault
+      (row-entry t (omega arith) (leaf-sound x _ _ _ _ refl refl refl refl (entry-refused (h .width) keys used countless s (x .0) (x .1) u free)) one-fault) q n
     where
       x : Ref
       x = entryAt h index page 0
@@ -158,17 +158,17 @@ module _ {h : Index} {index keys used : List ℕ} {page c count : ℕ} {s : Scan
       answer = said .verdict ∙ rw (t .disc)
 
       -- It is refused.
-      pub pass-stops : r .ok ≡ false → h .held ≤ countless → (q : Checked) → q .ok ≡ false
+      pub pass-stops : r .ok ≡ false → h .held ≤ countless → (q : Checked) → q .faults ≢ 0
           → Scanned (RowSound h index c 0 (rowsOf h index page) []) (h .width) keys used (h .held) s (leavesOfRow 0 (rowsOf h index) (rowsOf h index page)) q
       pass-stops o m q n = go (ltb c (x .0)) refl (sym answer ∙ o)
         where
           go : (k : Bool) → ltb c (x .0) ≡ k → (k && Fits) ≡ false
               → Scanned (RowSound h index c 0 (rowsOf h index page) []) (h .width) keys used (h .held) s (leavesOfRow 0 (rowsOf h index) (rowsOf h index page)) q
           go false k v =
-              refused-uncounted m refl (row-depth (t .turn) (omega arith) (x .0) refl (rw (ne-eqb (i + 1) count (λ y. omega arith)) k) (record { ok = false; scan = s }) refl) q n
+              refused-uncounted m one-fault (row-depth (t .turn) (omega arith) (x .0) refl (rw (ne-eqb (i + 1) count (λ y. omega arith)) k) (record { faults = 1; scan = s }) one-fault) q n
           go true k v =
-              refused-uncounted m refl
-              (row-entry (t .turn) (omega arith) (leaf-sound x _ _ _ _ refl refl refl refl (entry-refused (h .width) keys used countless (t .scan) (x .0) (x .1) (t .unclosed) v)) refl) q n
+              refused-uncounted m one-fault
+              (row-entry (t .turn) (omega arith) (leaf-sound x _ _ _ _ refl refl refl refl (entry-refused (h .width) keys used countless (t .scan) (x .0) (x .1) (t .unclosed) v)) one-fault) q n
 
       -- It is in order.
       module _ (o : r .ok ≡ true) (room : s .live + i < countless) where
@@ -178,7 +178,7 @@ module _ {h : Index} {index keys used : List ℕ} {page c count : ℕ} {s : Scan
         abbrev next : Scan
         next = record { disc = r .disc; trail = x .0; dummy = eqb (x .1) 65535; live = cond (eqb (x .1) 65535) (t .scan .live) (suc (t .scan .live)); closed = false }
 
-        one : Scanned (Unit {0}) (h .width) keys used countless (t .scan) (entry (x .0) (recordOf 65535 (x .1)) ∷ []) (record { ok = true; scan = next })
+        one : Scanned (Unit {0}) (h .width) keys used countless (t .scan) (entry (x .0) (recordOf 65535 (x .1)) ∷ []) (record { faults = 0; scan = next })
         one =
             entry-next (h .width) keys used countless (t .scan) (x .0) (x .1) (t .unclosed) (both (ltb c (x .0)) Fits (sym answer ∙ o) .1)
             (rw (lt-leb countless (t .scan .live) (omega (arith, t .counted))) (and-false (not (eqb (x .1) 65535)))) (t .turn .turned .carried) _ refl (λ y. omega (arith, above)) (r .disc)

@@ -1,13 +1,13 @@
 -- A row of entries, one after the other: what the check knows after each turn. Assumes nothing.
 use mathlib.Core.Path.{_≡_, refl, sym, ap, subst, _∙_}
-use mathlib.Core.Logic.{_↔_}
+use mathlib.Core.Logic.{_↔_, _≢_}
 use mathlib.Core.Bool.{Bool, true, false, cond, true≢false}
 use mathlib.Core.List.{List, [], _∷_, _++_, map}
 use Prim.Native.Nat.{ℕ, zero, suc, _+_, _-_, _≤_, _<_}
 use native.Mathlib.Omega.{arith}
 use lib.Dec.{eqb, ltb}
 use lib.ListN.{length, getD}
-use borrow.Author.Tests.{eqb-true, eq-eqb, ne-eqb, ltb-true, lt-ltb}
+use borrow.Author.Tests.{eqb-true, eq-eqb, ne-eqb, ltb-true, lt-ltb, eqb-false}
 use Rattle.leaf_list.specs.Entries.{Entry, entry}
 use Rattle.leaf_list.specs.Register.{keyAt, inUse}
 use Rattle.leaf_list.specs.Conditions.{State, run}
@@ -22,7 +22,7 @@ use Rattle.bytes_check.specs.Scans.{rowsOf}
 use Rattle.leaf_check.specs.Leaves.{stateOf, Carried, Passing, Scanned, leavesBelow, leavesOfRow, Ends, RowSound, EntrySound}
 use Rattle.leaf_check.specs.declared.entries.Scan.{Scan}
 use Rattle.leaf_check.specs.declared.entries.Checked.{Checked}
-use Rattle.leaf_check.proofs.EntryTests.{scanned-no, scanned-yes, entry-closed}
+use Rattle.leaf_check.proofs.EntryTests.{scanned-no, scanned-yes, entry-closed, one-fault}
 
 -- ---- some entries before others
 
@@ -181,16 +181,16 @@ module _ {h : Index} {index keys used : List ℕ} {page c n : ℕ} where
     Refused r = Scanned (RowSound h index c n (rowsOf h index page) map₀) (h .width) keys used (h .held) s₀ (leavesOfRow n (rowsOf h index) (rowsOf h index page)) r
 
     -- Entry i has a depth out of place: no.
-    pub row-depth : (d : ℕ) → d ≡ entryAt h index page i .0 → cond (eqb (i + 1) count) (eqb d c) (ltb c d) ≡ false → (r : Checked) → r .ok ≡ false → Refused r
+    pub row-depth : (d : ℕ) → d ≡ entryAt h index page i .0 → cond (eqb (i + 1) count) (eqb d c) (ltb c d) ≡ false → (r : Checked) → r .faults ≢ 0 → Refused r
     row-depth d e z r o = scanned-no r o (turned-depth here (sym (test d e) ∙ z))
 
     module _ {r : Checked} (a : Scanned (EntrySound h index n (entryAt h index page i) map) (h .width) keys used (h .held) s (leavesBelow n (rowsOf h index) (entryAt h index page i)) r) where
       -- Entry i is not in order: no.
-      pub row-entry : r .ok ≡ false → Refused r
-      row-entry o = scanned-no r o (turned-entry here (λ e p. true≢false (sym (a .verdict .1 (e, p)) ∙ o)))
+      pub row-entry : r .faults ≢ 0 → Refused r
+      row-entry o = scanned-no r o (turned-entry here (λ e p. o (a .verdict .1 (e, p))))
 
       -- Entry i is in order.
-      pub row-more : r .ok ≡ true → (d : ℕ) → d ≡ entryAt h index page i .0 → cond (eqb (i + 1) count) (eqb d c) (ltb c d) ≡ true
+      pub row-more : r .faults ≡ 0 → (d : ℕ) → d ≡ entryAt h index page i .0 → cond (eqb (i + 1) count) (eqb d c) (ltb c d) ≡ true
           → (map′ : List ℕ) → ((q : ℕ) → getD map′ q 0 ≡ getD map q 0 + met n (rowsOf h index) (entryAt h index page i) q) → RowTurn h index keys used page c n count map₀ s₀ map′ (r .scan) (i + 1)
       row-more o d e z map′ m =
           record { some = omega arith; turned = turned-more here (sym (test d e) ∙ z) (a .verdict .0 o .0) map′ m (r .scan) (a .state o) (a .carried o) }
@@ -203,7 +203,7 @@ module _ {h : Index} {index keys used : List ℕ} {page c n : ℕ} where
         subst (λ (r : List Ref). Turned h index keys used c n (rowsOf h index page) map₀ s₀ r map s) (ap (table (entryAt h index page) i) (let z : count - i ≡ 0 = omega arith in z)) (t .turned)
 
     -- Yes, with the state behind the row.
-    pub row-all : Scanned (RowSound h index c n (rowsOf h index page) map₀) (h .width) keys used (h .held) s₀ (leavesOfRow n (rowsOf h index) (rowsOf h index page)) (record { ok = true; scan = s })
+    pub row-all : Scanned (RowSound h index c n (rowsOf h index page) map₀) (h .width) keys used (h .held) s₀ (leavesOfRow n (rowsOf h index) (rowsOf h index page)) (record { faults = 0; scan = s })
     row-all = let a = turned-all done in scanned-yes _ refl (a .0) (a .1) (sym (done .state)) (done .carried)
 
     -- And the marks of all pages below it.
@@ -232,19 +232,19 @@ leaf-marks pages x q = omega arith
 
 -- No entry follows the closing one.
 pub leaf-closed : {h : Index} {index keys used : List ℕ} {page c count : ℕ} {s₀ s : Scan} {i : ℕ} → RowTurn h index keys used page c 0 count [] s₀ [] s i → i < count → s .closed ≡ true
-    → Scanned (RowSound h index c 0 (rowsOf h index page) []) (h .width) keys used (h .held) s₀ (leavesOfRow 0 (rowsOf h index) (rowsOf h index page)) (record { ok = false; scan = s })
+    → Scanned (RowSound h index c 0 (rowsOf h index page) []) (h .width) keys used (h .held) s₀ (leavesOfRow 0 (rowsOf h index) (rowsOf h index page)) (record { faults = 1; scan = s })
 leaf-closed {h} {index} {keys} {used} {page} {s} {i} t l z =
-    let x = entryAt h index page i in row-entry t l (leaf-sound x _ _ _ _ refl refl refl refl (entry-closed (h .width) keys used (h .held) s (x .0) (x .1) z)) refl
+    let x = entryAt h index page i in row-entry t l (leaf-sound x _ _ _ _ refl refl refl refl (entry-closed (h .width) keys used (h .held) s (x .0) (x .1) z)) one-fault
 
 -- The last entry of a page of level 0 has its depth in place: the page is in order exactly if the entry is.
 pub leaf-last : {h : Index} {index keys used : List ℕ} {page c count : ℕ} {s₀ s : Scan} {i : ℕ} → RowTurn h index keys used page c 0 count [] s₀ [] s i → i + 1 ≡ count
     → (d : ℕ) → d ≡ entryAt h index page i .0 → d ≡ c → {r : Checked}
     → Scanned (EntrySound h index 0 (entryAt h index page i) []) (h .width) keys used (h .held) s (leavesBelow 0 (rowsOf h index) (entryAt h index page i)) r
     → Scanned (RowSound h index c 0 (rowsOf h index page) []) (h .width) keys used (h .held) s₀ (leavesOfRow 0 (rowsOf h index) (rowsOf h index page)) r
-leaf-last {h} {index} {keys} {used} {page} {c} {count} {s₀} {s} {i} t l d e z {r} a = go (r .ok) refl
+leaf-last {h} {index} {keys} {used} {page} {c} {count} {s₀} {s} {i} t l d e z {r} a = go (eqb (r .faults) 0) refl
   where
-    go : (b : Bool) → r .ok ≡ b → Scanned (RowSound h index c 0 (rowsOf h index page) []) (h .width) keys used (h .held) s₀ (leavesOfRow 0 (rowsOf h index) (rowsOf h index page)) r
-    go false o = row-entry t (omega arith) a o
+    go : (b : Bool) → eqb (r .faults) 0 ≡ b → Scanned (RowSound h index c 0 (rowsOf h index page) []) (h .width) keys used (h .held) s₀ (leavesOfRow 0 (rowsOf h index) (rowsOf h index page)) r
+    go false o = row-entry t (omega arith) a (eqb-false (r .faults) 0 o)
     go true o =
-        subst (λ (b : Bool). Scanned (RowSound h index c 0 (rowsOf h index page) []) (h .width) keys used (h .held) s₀ (leavesOfRow 0 (rowsOf h index) (rowsOf h index page)) (record { ok = b; scan = r .scan })) (sym o)
-        (row-all (row-more t (omega arith) a o d e (rw (eq-eqb (i + 1) count l, eq-eqb d c z)) [] (leaf-marks _ _)) (omega arith))
+        subst (λ (n : ℕ). Scanned (RowSound h index c 0 (rowsOf h index page) []) (h .width) keys used (h .held) s₀ (leavesOfRow 0 (rowsOf h index) (rowsOf h index page)) (record { faults = n; scan = r .scan })) (sym (eqb-true (r .faults) 0 o))
+        (row-all (row-more t (omega arith) a (eqb-true (r .faults) 0 o) d e (rw (eq-eqb (i + 1) count l, eq-eqb d c z)) [] (leaf-marks _ _)) (omega arith))

@@ -1,7 +1,6 @@
 -- The entries of a page of level 0, before the live ones are compared with the records held. Assumes nothing.
 use mathlib.Core.Path.{_≡_, sym, ap, _∙_}
-use mathlib.Core.Logic.{_↔_}
-use mathlib.Core.Bool.{false, true≢false}
+use mathlib.Core.Logic.{_↔_, _≢_}
 use mathlib.Core.List.{List, []}
 use Prim.Native.Nat.{ℕ, _≤_, _<_}
 use native.Mathlib.Omega.{arith}
@@ -39,14 +38,14 @@ module _ {h : Index} {index : List ℕ} {c n : ℕ} {row : List Ref} {map : List
   )
 
   -- What is refused before the live entries are compared is refused.
-  pub refused-uncounted : {keys used : List ℕ} {s : Scan} {es : List Entry} {r′ : Checked} → h .held ≤ countless → r′ .ok ≡ false
-      → Scanned (RowSound (uncounted h) index c n row map) (h .width) keys used countless s es r′ → (r : Checked) → r .ok ≡ false → Scanned (RowSound h index c n row map) (h .width) keys used (h .held) s es r
+  pub refused-uncounted : {keys used : List ℕ} {s : Scan} {es : List Entry} {r′ : Checked} → h .held ≤ countless → r′ .faults ≢ 0
+      → Scanned (RowSound (uncounted h) index c n row map) (h .width) keys used countless s es r′ → (r : Checked) → r .faults ≢ 0 → Scanned (RowSound h index c n row map) (h .width) keys used (h .held) s es r
   refused-uncounted l o z r e =
-      scanned-no r e (λ a p. true≢false (sym (z .verdict .1 (row-uncounted .0 a, record { fits = p .fits; few = omega (arith, p .few) })) ∙ o))
+      scanned-no r e (λ a p. o (z .verdict .1 (row-uncounted .0 a, record { fits = p .fits; few = omega (arith, p .few) })))
 
 module _ {h : Index} {index keys used : List ℕ} {page c count : ℕ} {s₀ s : Scan} {i : ℕ} (t : RowTurn (uncounted h) index keys used page c 0 count [] s₀ [] s i) where
   -- More entries are live than records are held: no.
-  pub too-many-live : h .held < s .live → (r : Checked) → r .ok ≡ false
+  pub too-many-live : h .held < s .live → (r : Checked) → r .faults ≢ 0
       → Scanned (RowSound h index c 0 (rowsOf h index page) []) (h .width) keys used (h .held) s₀ (leavesOfRow 0 (rowsOf h index) (rowsOf h index page)) r
   too-many-live l r o = scanned-no r o (λ a p. omega (arith, p .few, ap (λ (u : State). u .live) (t .turned .state), run-live (h .width) (keyAt keys) (inUse used) (leavesOfRow 0 (rowsOf h index) (entriesFrom h index page count i)) (stateOf s)))
 

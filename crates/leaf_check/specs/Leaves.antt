@@ -47,9 +47,9 @@ pub record Passing (w : ℕ) (keys used : List ℕ) (held : ℕ) (s : State) (es
 
 -- The answer on some entries, and on what more is asked: yes exactly if all that holds, and then the state behind them.
 pub record Scanned (More : Type 0) (w : ℕ) (keys used : List ℕ) (held : ℕ) (s : Scan) (es : List Entry) (r : Checked) : Type 0 where
-  pub verdict : (r .ok ≡ true) ↔ (More × Passing w keys used held (stateOf s) es)
-  pub state : r .ok ≡ true → stateOf (r .scan) ≡ run w (keyAt keys) (inUse used) (stateOf s) es
-  pub carried : r .ok ≡ true → Carried w held (r .scan)
+  pub verdict : (r .faults ≡ 0) ↔ (More × Passing w keys used held (stateOf s) es)
+  pub state : r .faults ≡ 0 → stateOf (r .scan) ≡ run w (keyAt keys) (inUse used) (stateOf s) es
+  pub carried : r .faults ≡ 0 → Carried w held (r .scan)
 
 -- The entries on level 0 below an entry of rank n, and below a row of them.
 abbrev pub leavesBelow : (n : ℕ) → Pages → Ref → List Entry

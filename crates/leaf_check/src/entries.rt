@@ -20,9 +20,9 @@ pub struct Scan {
     pub closed: bool,
 }
 
-// Whether everything fitted so far, and what is carried on.
+// How many faults were met, none or one, and what is carried on. A number, not a flag: copies of a flag before numbers take longer.
 pub struct Checked {
-    pub ok: bool,
+    pub faults: u64,
     pub scan: Scan,
 }
 
@@ -95,19 +95,19 @@ pub fn scan_entry(w: u64, keys: &[u64], used: &[u8], held: u64, s: Scan, d: u64,
     ensures { λ r. ⌜ Scanned (Unit {0}) w (now (keys .entry)) (now (used .entry)) held s (entry d (recordOf 65535 p) ∷ []) r ⌝ }
 {
     if s.closed {
-        return Checked { ok: false, scan: s };
+        return Checked { faults: 1, scan: s };
     }
     if !entry_fits(w, keys, used, s, d, p) {
-        return Checked { ok: false, scan: s };
+        return Checked { faults: 1, scan: s };
     }
     if too_many(held, s.live, p) {
-        return Checked { ok: false, scan: s };
+        return Checked { faults: 1, scan: s };
     }
     let live = live_behind(s.live, p);
     let dummy = p == 65535;
     if d == 0 {
         return Checked {
-            ok: true,
+            faults: 0,
             scan: Scan {
                 disc: 0,
                 trail: 0,
@@ -119,7 +119,7 @@ pub fn scan_entry(w: u64, keys: &[u64], used: &[u8], held: u64, s: Scan, d: u64,
     }
     let disc = leaf_list::next_discriminator(w, s.disc, d);
     Checked {
-        ok: true,
+        faults: 0,
         scan: Scan {
             disc,
             trail: d,

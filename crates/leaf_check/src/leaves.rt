@@ -41,17 +41,17 @@ pub fn scan_leaves(
     let close = wide(c);
     let n = index_table::layout::wide(index_table::layout::count(index, h.entries, page));
     if n == 0 {
-        return Checked { ok: true, scan: s };
+        return Checked { faults: 0, scan: s };
     }
     if s.closed {
-        return Checked { ok: false, scan: s };
+        return Checked { faults: 1, scan: s };
     }
     let last = n - 1;
     let most = crate::passes::bits_behind(w, close);
     let mut pass = crate::passes::pass_start(w, close, s);
     let first = index_table::layout::pointer(index, h.entries, page, 0);
     if !crate::passes::record_told(used, pass.disc, pass.low, first) {
-        return Checked { ok: false, scan: s };
+        return Checked { faults: 1, scan: s };
     }
     let mut i: usize = 0;
     while i < last {
@@ -65,11 +65,11 @@ pub fn scan_leaves(
     }
     let scan = crate::passes::scan_behind(index, h, page, most, s, i, pass);
     if held < scan.live {
-        return Checked { ok: false, scan };
+        return Checked { faults: 1, scan };
     }
     let d = index_table::layout::depth(index, h.entries, page, i);
     if d != c {
-        return Checked { ok: false, scan };
+        return Checked { faults: 1, scan };
     }
     let p = index_table::layout::pointer(index, h.entries, page, i);
     crate::entries::scan_entry(w, keys, used, held, scan, wide(d), p)

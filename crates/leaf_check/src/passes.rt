@@ -1,5 +1,6 @@
 // One pass over the entries of a page of level 0 but the last.
 ghost use mathlib.Core.Path.{_≡_};
+ghost use mathlib.Core.Logic.{_≢_};
 ghost use mathlib.Core.Bool.{false, cond, _&&_};
 ghost use Prim.Native.Nat.{suc, _+_, _-_, _≤_, _<_, _^_, max};
 ghost use lib.Bits.{bitXor, bitAnd};
@@ -155,11 +156,11 @@ pub fn pass_entry(keys: &[u64], most: u64, s: Pass, below: u64, p: u32) -> Pass
 
 // The refusal of a page; it says nothing of what is carried, and keeps no more of the pass than one number.
 pub fn refused(pass: Pass) -> Checked
-    ensures { λ r. ⌜ r .ok ≡ false ⌝ }
+    ensures { λ r. ⌜ r .faults ≢ 0 ⌝ }
 {
     let n = pass.dummies;
     Checked {
-        ok: false,
+        faults: 1,
         scan: Scan {
             disc: n,
             trail: n,

@@ -1,6 +1,6 @@
 -- A page as it is met: its size, its mark, and its row of entries with all below them. Assumes nothing.
 use mathlib.Core.Path.{_≡_, refl, sym, ap, ap₂, subst, _∙_}
-use mathlib.Core.Logic.{_↔_, _⊎_, inl, inr}
+use mathlib.Core.Logic.{_↔_, _⊎_, inl, inr, _≢_}
 use mathlib.Core.Bool.{Bool, true, false, true≢false}
 use mathlib.Core.List.{List, [], _∷_}
 use Prim.Native.Nat.{ℕ, suc, _+_, _-_, _≤_, _<_}
@@ -124,12 +124,12 @@ module _ (h : Index) (index : List ℕ) (n page c : ℕ) (map : List ℕ) where
 
 module _ {h : Index} {index keys used : List ℕ} {n page c : ℕ} {map : List ℕ} where
   -- A page that is refused as it is met.
-  pub walked-refused : {masks map₁ map′ : List ℕ} {s : Scan} {b : Bool} → WalkPre h index keys used masks map s → Entered h index n page map map₁ b → b ≡ false → (r : Checked) → r .ok ≡ false
+  pub walked-refused : {masks map₁ map′ : List ℕ} {s : Scan} {b : Bool} → WalkPre h index keys used masks map s → Entered h index n page map map₁ b → b ≡ false → (r : Checked) → r .faults ≢ 0
       → Walked h index keys used (suc n) (c, page) map map′ s r
   walked-refused w e z r o =
       record {
         scanned = scanned-no r o (λ a p. let v = page-row h index n page c map (w .long) .0 a in said-no (e .verdict) z (v .0, v .1));
-        marks = λ t. absurd (true≢false (sym t ∙ o));
+        marks = λ t. absurd (o t);
       }
 
 -- A page that was met: what the check of it took, its size, and the map with its mark.
@@ -182,7 +182,7 @@ module _ {h : Index} {index keys used masks : List ℕ} {n page : ℕ} {map map�
     -- The answer on its row is the answer on the page.
     pub walked-row : {map′ : List ℕ} {r : Checked}
         → Scanned (RowSound h index c n (rowsOf h index page) map₁) (h .width) keys used (h .held) s (leavesOfRow n (rowsOf h index) (rowsOf h index page)) r
-        → (r .ok ≡ true → (q : ℕ) → getD map′ q 0 ≡ getD map₁ q 0 + metAll n (rowsOf h index) (rowsOf h index page) q)
+        → (r .faults ≡ 0 → (q : ℕ) → getD map′ q 0 ≡ getD map₁ q 0 + metAll n (rowsOf h index) (rowsOf h index page) q)
         → Walked h index keys used (suc n) (c, page) map map′ s r
     unfolding met nodeAt
     walked-row {map′} {r} a k =
@@ -202,10 +202,10 @@ module _ {h : Index} {index keys used masks : List ℕ} {n page : ℕ} {map map�
         row = page-row h index n page c map (m .pre .long)
 
     -- So is an answer of no, whatever the marks.
-    pub walked-row-no : {map′ : List ℕ} {r : Checked} → r .ok ≡ false
+    pub walked-row-no : {map′ : List ℕ} {r : Checked} → r .faults ≢ 0
         → Scanned (RowSound h index c n (rowsOf h index page) map₁) (h .width) keys used (h .held) s (leavesOfRow n (rowsOf h index) (rowsOf h index page)) r
         → Walked h index keys used (suc n) (c, page) map map′ s r
-    walked-row-no o a = walked-row a (λ t. absurd (true≢false (sym t ∙ o)))
+    walked-row-no o a = walked-row a (λ t. absurd (o t))
 
     -- On level 0.
     pub walked-leaves : {r : Checked} → n ≡ 0

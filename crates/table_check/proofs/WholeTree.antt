@@ -92,7 +92,7 @@ module _ {h : Index} {index keys used : List ℕ} {level : ℕ} {map map′ : Li
   end = run (h .width) (keyAt keys) (inUse used) start (leavesBelow (suc level) (rowsOf h index) (rootRef (h .root .0)))
 
   -- A tree that is sound is walked to its end.
-  pub tree-walked : TreeSound h index keys used level → r .ok ≡ true
+  pub tree-walked : TreeSound h index keys used level → r .faults ≡ 0
   tree-walked t =
       w .scanned .verdict .1 (
         record { sound = t .below; once = λ q. omega (arith, unmarked q, t .once q) },
@@ -102,7 +102,7 @@ module _ {h : Index} {index keys used : List ℕ} {level : ℕ} {map map′ : Li
         },
       )
 
-  module _ (o : r .ok ≡ true) where
+  module _ (o : r .faults ≡ 0) where
     -- Its list is closed.
     pub tree-closed : TreeSound h index keys used level → r .scan .closed ≡ true
     tree-closed t =

@@ -33,4 +33,4 @@ pub record Entered (h : Index) (index : List ℕ) (level page : ℕ) (map map′
 -- The answer on an entry of rank n and all below it: yes exactly if all is sound, and then the state behind it and the marks.
 pub record Walked (h : Index) (index keys used : List ℕ) (n : ℕ) (x : Ref) (map map′ : List ℕ) (s : Scan) (r : Checked) : Type 0 where
   pub scanned : Scanned (EntrySound h index n x map) (h .width) keys used (h .held) s (leavesBelow n (rowsOf h index) x) r
-  pub marks : r .ok ≡ true → (q : ℕ) → getD map′ q 0 ≡ getD map q 0 + met n (rowsOf h index) x q
+  pub marks : r .faults ≡ 0 → (q : ℕ) → getD map′ q 0 ≡ getD map q 0 + met n (rowsOf h index) x q

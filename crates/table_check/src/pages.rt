@@ -63,7 +63,7 @@ pub fn page_ok(
     ensures { λ r. ⌜ Walked h (now (index .entry)) (now (keys .entry)) (now (used .entry)) (suc level) (c, page .0) (now (map .entry)) (now (map .exit)) s r ⌝ }
 {
     if !enter(index, map, h, level, page) {
-        return Checked { ok: false, scan: s };
+        return Checked { faults: 1, scan: s };
     }
     if level == 0 {
         return leaf_check::leaves::scan_leaves(index, keys, used, masks, h, page, c, s);
@@ -74,17 +74,17 @@ pub fn page_ok(
     while i < n {
         let d = index_table::layout::depth(index, h.entries, page, i);
         if !leaf_check::leaves::closes(c, d, i + 1 == n) {
-            return Checked { ok: false, scan };
+            return Checked { faults: 1, scan };
         }
         let child = index_table::layout::child(index, h.entries, page, i);
         let next = child_ok(index, keys, used, masks, map, h, level, child, d, scan);
-        if !next.ok {
+        if next.faults != 0 {
             return next;
         }
         scan = next.scan;
         i += 1;
     }
-    Checked { ok: true, scan }
+    Checked { faults: 0, scan }
 }
 
 // A child is in order if it is a sound page one level lower.

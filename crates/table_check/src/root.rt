@@ -50,7 +50,7 @@ fn tree_marked(
     };
     let root = h.root;
     let end = crate::pages::page_ok(index, keys, used, masks, map, h, level, root, 0, start);
-    if !end.ok {
+    if end.faults != 0 {
         return false;
     }
     let scan = end.scan;

@@ -7,6 +7,7 @@ use Rattle.leaf_check.proofs.RowTurns.{entry-few, row-start, row-depth,
 use Rattle.leaf_check.proofs.UncountedTurns.{carried-uncounted, carried-counted, too-many-live, turn-counted}
 use Rattle.leaf_check.proofs.PassTurns.{Named, named-few, PassTurn, pass-begun, first-stops, pass-ends, pass-stops, pass-goes}
 use Rattle.leaf_check.proofs.DepthTable.{masked}
+use Rattle.leaf_check.proofs.EntryTests.{one-fault}
 use borrow.Author.Needs.{needs}
 use Rattle.leaf_check.proofs.leaves.scan_leaves.Statement.{statement}
 use Rattle.leaf_check.proofs.leaves.scan_leaves.Tie as tie
@@ -60,7 +61,7 @@ returns-3 c =
     let pre = c .before .before .before .before .before .before .before .before .before .before .before .before .before .before .before .before .pre in
     first-stops
     (row-start _ _ _ (c .before .before .before .before .before .before .before .wide3 .ensures .0 ∙ c .before .before .before .before .before .before .before .before .count .ensures) (λ q. omega arith) (carried-uncounted (omega (arith, c .before .before .before .before .before .before .before .before .before .before .wide16 .ensures)) (pre .carried)))
-    (c .before .before .before .before .before .if2 .left) (omega (arith, c .before .before .before .before .before .before .if1 .left)) (c .before .before .before .pass-start .result .disc) (c .before .before .before .pass-start .result .low) (rw (← (c .before .before .pointer .ensures .0), ← (c .before .record-told .ensures)) (not-true _ (c .if3 .taken))) (omega (arith, c .before .before .before .before .before .before .before .before .before .before .wide16 .ensures)) _ refl
+    (c .before .before .before .before .before .if2 .left) (omega (arith, c .before .before .before .before .before .before .if1 .left)) (c .before .before .before .pass-start .result .disc) (c .before .before .before .pass-start .result .low) (rw (← (c .before .before .pointer .ensures .0), ← (c .before .record-told .ensures)) (not-true _ (c .if3 .taken))) (omega (arith, c .before .before .before .before .before .before .before .before .before .before .wide16 .ensures)) _ one-fault
 
 loop-holds : tie.Need-loop-holds Inv-loop μ-loop
 loop-holds c =
@@ -149,7 +150,7 @@ returns-5 : tie.Need-returns-5 Inv-loop μ-loop
 returns-5 c =
     let at = c .before .before .before .before in
     let named = at .loop .inv .0 in
-    too-many-live (pass-ends (at .loop .inv .2) (named .most) (c .before .before .scan-behind .ensures)) (omega (arith, c .if5 .taken, named .held)) _ refl
+    too-many-live (pass-ends (at .loop .inv .2) (named .most) (c .before .before .scan-behind .ensures)) (omega (arith, c .if5 .taken, named .held)) _ one-fault
 
 depth-requires-2 : tie.Need-depth-requires-2 Inv-loop μ-loop
 depth-requires-2 c κs =
@@ -163,7 +164,7 @@ returns-6 c =
     let at = c .before .before .before .before .before .before in
     let named = at .loop .inv .0 in
     row-depth (turn-counted (pass-ends (at .loop .inv .2) (named .most) (c .before .before .before .before .scan-behind .ensures)) (omega (arith, named .held, named .low)) (omega (arith, c .before .before .if5 .left, named .held))) (omega (arith, named .last, at .loop .inv .1)) _ (c .before .depth2 .ensures)
-    (rw (eq-eqb (at .loop .i + 1) (at .before .before .before .before .before .before .before .before .wide3 .result) (omega (arith, named .last, at .loop .inv .1, c .before .before .before .before .before .loop-test .left))) (ne-eqb (c .before .depth2 .result) (at .before .before .before .before .before .before .before .before .before .before .before .before .before .before .before .before .before .args .c) (λ z. omega (arith, c .if6 .taken)))) _ refl
+    (rw (eq-eqb (at .loop .i + 1) (at .before .before .before .before .before .before .before .before .wide3 .result) (omega (arith, named .last, at .loop .inv .1, c .before .before .before .before .before .loop-test .left))) (ne-eqb (c .before .depth2 .result) (at .before .before .before .before .before .before .before .before .before .before .before .before .before .before .before .before .before .args .c) (λ z. omega (arith, c .if6 .taken)))) _ one-fault
 
 pointer-requires-3 : tie.Need-pointer-requires-3 Inv-loop μ-loop
 pointer-requires-3 c κs =

@@ -6,6 +6,7 @@ use lib.ListN.{length}
 use borrow.Author.Tests.{not-true, not-false}
 use Rattle.leaf_check.proofs.RowTurns.{RowTurn, entryAt, entry-few, row-start, row-depth, row-entry, row-more, row-all, row-marks}
 use Rattle.table_check.proofs.MetPages.{MetPage, met-page, met-marked, met-long, leaves-pre, walk-on, walked-refused, walked-row, walked-row-no, walked-leaves, walked-at, walked-lower}
+use Rattle.leaf_check.proofs.EntryTests.{one-fault}
 use borrow.Author.Needs.{needs}
 use Prim.Native.Nat.{ℕ}
 use borrow.Fn.Kinds.{In}
@@ -105,7 +106,7 @@ page-ok-same-length : (t : ℕ) → page-ok-lts.Need-same-length (page-ok-claims
 page-ok-same-length t c = search needs
 
 page-ok-returns : (t : ℕ) → page-ok-lts.Need-returns (page-ok-claims t) (page-ok-at t) page-ok.Post page-ok-Inv-loop page-ok-μ-loop
-page-ok-returns t c = walked-refused (c .before .before .before .before .before .before .before .before .before .before .pre .1) (c .before .before .before .enter .ensures) (not-true _ (c .if1 .taken)) _ refl
+page-ok-returns t c = walked-refused (c .before .before .before .before .before .before .before .before .before .before .pre .1) (c .before .before .before .enter .ensures) (not-true _ (c .if1 .taken)) _ one-fault
 
 page-ok-scan-leaves-requires : (t : ℕ) → page-ok-lts.Need-scan-leaves-requires (page-ok-claims t) (page-ok-at t) page-ok.Post page-ok-Inv-loop page-ok-μ-loop
 page-ok-scan-leaves-requires t c κs = leaves-pre (met t (c .before))
@@ -138,7 +139,7 @@ page-ok-same-length-3 : (t : ℕ) → page-ok-lts.Need-same-length-3 (page-ok-cl
 page-ok-same-length-3 t c = c .before .before .before .before .loop .inv .1 ∙ met-long (met t (c .before .before .before .before .before .before .before .before))
 
 page-ok-returns-3 : (t : ℕ) → page-ok-lts.Need-returns-3 (page-ok-claims t) (page-ok-at t) page-ok.Post page-ok-Inv-loop page-ok-μ-loop
-page-ok-returns-3 t c = walked-row-no (met t (c .before .before .before .before .before .before .before .before)) refl (row-depth (c .before .before .before .before .loop .inv .0) (c .before .before .before .loop-test .taken) _ (c .before .before .depth .ensures) (sym (c .before .closes .ensures) ∙ not-true _ (c .if3 .taken)) _ refl)
+page-ok-returns-3 t c = walked-row-no (met t (c .before .before .before .before .before .before .before .before)) one-fault (row-depth (c .before .before .before .before .loop .inv .0) (c .before .before .before .loop-test .taken) _ (c .before .before .depth .ensures) (sym (c .before .closes .ensures) ∙ not-true _ (c .if3 .taken)) _ one-fault)
 
 page-ok-child-requires : (t : ℕ) → page-ok-lts.Need-child-requires (page-ok-claims t) (page-ok-at t) page-ok.Post page-ok-Inv-loop page-ok-μ-loop
 page-ok-child-requires t c κs = let l = leaves-pre (met t (c .before .before .before .before .before .before .before .before)) in (l .within, entry-few (c .before .before .before .before .before .before .before .before .before .before .before .before .before .before .before .before .before .before .args .h) _ _ _ _ (c .before .before .before .before .before .wide .ensures .0 ∙ c .before .before .before .before .before .before .count .ensures) (l .few) (c .before .before .before .loop-test .taken))
@@ -150,8 +151,8 @@ page-ok-same-length-4 : (t : ℕ) → page-ok-lts.Need-same-length-4 (page-ok-cl
 page-ok-same-length-4 t c = c .before .before .before .before .child-ok .kept .1 .1 .1 .1 .0 ∙ c .before .before .before .before .before .before .before .before .before .before .before .loop .inv .1 ∙ met-long (met t (c .before .before .before .before .before .before .before .before .before .before .before .before .before .before .before))
 
 page-ok-returns-4 : (t : ℕ) → page-ok-lts.Need-returns-4 (page-ok-claims t) (page-ok-at t) page-ok.Post page-ok-Inv-loop page-ok-μ-loop
-page-ok-returns-4 t c = let a = c .before .before .before .before .before .before .before .before .before .before .before .before .before .before .before .before .before .before .before .before .before .before .before .before .before .args in walked-row-no (met t (c .before .before .before .before .before .before .before .before .before .before .before .before .before .before .before)) (not-true _ (c .if4 .taken))
-    (row-entry (c .before .before .before .before .before .before .before .before .before .before .before .loop .inv .0) (c .before .before .before .before .before .before .before .before .before .before .loop-test .taken) (walked-at (entryAt (a .h) (a .index .now) (a .page .0) _) (c .before .before .before .before .before .before .before .before .before .depth .ensures) (c .before .before .before .before .before .before .child .ensures) (c .before .before .before .before .child-ok .ensures) .scanned) (not-true _ (c .if4 .taken)))
+page-ok-returns-4 t c = let a = c .before .before .before .before .before .before .before .before .before .before .before .before .before .before .before .before .before .before .before .before .before .before .before .before .before .args in walked-row-no (met t (c .before .before .before .before .before .before .before .before .before .before .before .before .before .before .before)) (c .if4 .taken)
+    (row-entry (c .before .before .before .before .before .before .before .before .before .before .before .loop .inv .0) (c .before .before .before .before .before .before .before .before .before .before .loop-test .taken) (walked-at (entryAt (a .h) (a .index .now) (a .page .0) _) (c .before .before .before .before .before .before .before .before .before .depth .ensures) (c .before .before .before .before .before .before .child .ensures) (c .before .before .before .before .child-ok .ensures) .scanned) (c .if4 .taken))
 
 page-ok-add-i : (t : ℕ) → page-ok-lts.Need-add-i (page-ok-claims t) (page-ok-at t) page-ok.Post page-ok-Inv-loop page-ok-μ-loop
 page-ok-add-i t c = search needs
@@ -160,7 +161,7 @@ page-ok-loop-less : (t : ℕ) → page-ok-lts.Need-loop-less (page-ok-claims t) 
 page-ok-loop-less t c = search needs
 
 page-ok-loop-again : (t : ℕ) → page-ok-lts.Need-loop-again (page-ok-claims t) (page-ok-at t) page-ok.Post page-ok-Inv-loop page-ok-μ-loop
-page-ok-loop-again t c = let a = c .before .before .before .before .before .before .before .before .before .before .before .before .before .before .before .before .before .before .before .before .before .before .before .before .before .before .args in let x = walked-at (entryAt (a .h) (a .index .now) (a .page .0) _) (c .before .before .before .before .before .before .before .before .before .before .depth .ensures) (c .before .before .before .before .before .before .before .child .ensures) (c .before .before .before .before .before .child-ok .ensures) in let o = not-false _ (c .before .if4 .left) in (
+page-ok-loop-again t c = let a = c .before .before .before .before .before .before .before .before .before .before .before .before .before .before .before .before .before .before .before .before .before .before .before .before .before .before .args in let x = walked-at (entryAt (a .h) (a .index .now) (a .page .0) _) (c .before .before .before .before .before .before .before .before .before .before .depth .ensures) (c .before .before .before .before .before .before .before .child .ensures) (c .before .before .before .before .before .child-ok .ensures) in let o = c .before .if4 .left in (
   row-more (c .before .before .before .before .before .before .before .before .before .before .before .before .loop .inv .0) (c .before .before .before .before .before .before .before .before .before .before .before .loop-test .taken) (x .scanned) o _ (c .before .before .before .before .before .before .before .before .before .before .depth .ensures) (sym (c .before .before .before .before .before .before .before .before .before .closes .ensures) ∙ not-false _ (c .before .before .before .before .before .before .before .before .if3 .left)) _ (x .marks o),
   c .before .before .before .before .before .child-ok .kept .1 .1 .1 .1 .0 ∙ c .before .before .before .before .before .before .before .before .before .before .before .before .loop .inv .1,
 )
