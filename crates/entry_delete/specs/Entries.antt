@@ -10,7 +10,7 @@ use Rattle.page_tree.specs.declared.Unwind.{Unwind}
 use Rattle.page_tree.specs.declared.Unwind.the-variants.{Idle, Give, Clear}
 use Rattle.index_table.specs.Layout.{Ref}
 use Rattle.index_table.specs.Pages.{leafOf}
-use Rattle.tree_delete.specs.declared.entries.Remnant.{Remnant}
+use Rattle.entry_delete.specs.declared.Remnant.{Remnant}
 
 -- The entry that is left, if one is.
 abbrev pub parts : Remnant → List Ref

@@ -3,8 +3,8 @@ use Prim.Native.Nat.{ℕ}
 use mathlib.Core.Path.{_≡_, refl}
 use native.Mathlib.Omega.{arith}
 use borrow.Author.Needs.{needs}
-use Rattle.tree_delete.proofs.entries.idle.Statement.{statement}
-use Rattle.tree_delete.proofs.entries.idle.Tie as tie
+use Rattle.entry_delete.proofs.idle.Statement.{statement}
+use Rattle.entry_delete.proofs.idle.Tie as tie
 
 enum-told : tie.Need-enum-told
 enum-told c = search needs

@@ -10,7 +10,7 @@ use Rattle.page_tree.specs.declared.Unwind.{Unwind}
 use Rattle.page_tree.specs.declared.Unwind.the-variants.{Idle, Give, Clear}
 use Rattle.page_tree.specs.OffPages.{stepEntry, strike}
 use Rattle.index_table.specs.Pages.{leafOf}
-use Rattle.tree_delete.specs.Entries.{Turned}
+use Rattle.entry_delete.specs.Entries.{Turned}
 
 module _ (s : Unwind) (d p : ℕ) (fits : p < 65536) where
   -- Nothing is asked.

@@ -1,9 +1,9 @@
 -- Case by case. Assumes nothing.
-use Rattle.tree_delete.proofs.EntryTurns.{strike-one, strike-zero, strike-dummy}
+use Rattle.entry_delete.proofs.EntryTurns.{strike-one, strike-zero, strike-dummy}
 use native.Mathlib.Omega.{arith}
 use borrow.Author.Needs.{needs}
-use Rattle.tree_delete.proofs.entries.strike.Statement.{statement}
-use Rattle.tree_delete.proofs.entries.strike.Tie as tie
+use Rattle.entry_delete.proofs.strike.Statement.{statement}
+use Rattle.entry_delete.proofs.strike.Tie as tie
 
 deep-requires : tie.Need-deep-requires
 deep-requires c κs = search needs

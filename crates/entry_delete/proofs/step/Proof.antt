@@ -1,9 +1,9 @@
 -- Case by case. Assumes nothing.
-use Rattle.tree_delete.proofs.EntryTurns.{step-idle, step-give, step-live, step-dummy, step-shallow}
+use Rattle.entry_delete.proofs.EntryTurns.{step-idle, step-give, step-live, step-dummy, step-shallow}
 use native.Mathlib.Omega.{arith}
 use borrow.Author.Needs.{needs}
-use Rattle.tree_delete.proofs.entries.step.Statement.{statement}
-use Rattle.tree_delete.proofs.entries.step.Tie as tie
+use Rattle.entry_delete.proofs.step.Statement.{statement}
+use Rattle.entry_delete.proofs.step.Tie as tie
 
 enum-told : tie.Need-enum-told
 enum-told c = search needs

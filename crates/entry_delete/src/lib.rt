@@ -4,7 +4,7 @@ ghost use Prim.Native.Nat.{_<_};
 ghost use Rattle.leaf_list.specs.Entries.{entry};
 ghost use Rattle.page_tree.specs.OffPages.{stepEntry, strike as strikeEntry};
 ghost use Rattle.index_table.specs.Pages.{leafOf};
-ghost use Rattle.tree_delete.specs.Entries.{Turned, IdlePost};
+ghost use Rattle.entry_delete.specs.Entries.{Turned, IdlePost};
 use index_table::layout::deep;
 use page_tree::Unwind;
 
