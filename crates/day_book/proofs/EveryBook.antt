@@ -6,7 +6,7 @@ use Prim.Native.Nat.{ℕ, suc}
 use contract.Lifetimes.{Lfts}
 use denote.Ref.{RefT}
 use lib.ListN.{length, take}
-use Rattle.table_calls.specs.declared.answer.Answer.{Answer}
+use Rattle.table_find.specs.declared.answer.Answer.{Answer}
 use Rattle.table_format.specs.Format.{formatFits, FormatDoes}
 use Rattle.table_format.proofs.EmptySound.{format-sound, format-lengths, format-width, format-empties}
 use Rattle.table_format.proofs.format.Reads as format-reads

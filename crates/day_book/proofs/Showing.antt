@@ -14,9 +14,9 @@ use Rattle.leaf_list.proofs.FittingHerds.{AllInUse}
 use Rattle.index_table.specs.Header.{widthOf}
 use Rattle.index_table.specs.Soundness.{Sound}
 use Rattle.index_table.proofs.SoundTables.{in-use-inside, herd-in-use}
-use Rattle.table_calls.specs.declared.answer.Answer.{Answer}
-use Rattle.table_calls.specs.Answers.{plain, found}
-use Rattle.table_calls.specs.Ranges.{between, recordsBetween, listed, listSlice}
+use Rattle.table_find.specs.declared.answer.Answer.{Answer}
+use Rattle.table_find.specs.Answers.{plain, found}
+use Rattle.table_list.specs.Ranges.{between, recordsBetween, listed, listSlice}
 use Rattle.tag_index.specs.Reading.{firstRow, behind, keptBehind, FindDoes, ListDoes}
 use Rattle.table_change.specs.Changes.{tooWide}
 use Rattle.book_answers.specs.Writing.{RecordNumbers, Writable, AnswerWritten}

@@ -4,8 +4,8 @@ use mathlib.Core.List.{List, [], _∷_, _++_}
 use Prim.Native.Nat.{ℕ, suc}
 use lib.Dec.{eqb}
 use lib.ListN.{take, replicate}
-use Rattle.table_calls.specs.declared.answer.Answer.{Answer}
-use Rattle.table_calls.specs.Answers.{plain}
+use Rattle.table_find.specs.declared.answer.Answer.{Answer}
+use Rattle.table_find.specs.Answers.{plain}
 use Rattle.tag_index.specs.Histories.{Tables, on, off, find, list, Reply, answered, sliced, said, OrderedMap, Sizes, Feed, nothingFed, feedOf, mapReply, mapAfter}
 use Rattle.book_lines.specs.declared.Said.{Said}
 use Rattle.book_lines.specs.declared.Said.the-variants.{On, Off, Find, List as Lists, Bad, OutOfRange}

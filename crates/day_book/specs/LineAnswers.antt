@@ -3,7 +3,7 @@ use mathlib.Core.Path.{_≡_}
 use mathlib.Core.List.{List, [], _∷_, _++_}
 use Prim.Native.Nat.{ℕ, suc, _≤_}
 use lib.ListN.{length, take, drop}
-use Rattle.table_calls.specs.declared.answer.Answer.{Answer}
+use Rattle.table_find.specs.declared.answer.Answer.{Answer}
 use Rattle.tag_index.specs.Changing.{OnDoes, OffDoes}
 use Rattle.tag_index.specs.Reading.{FindDoes, ListDoes}
 use Rattle.tag_index.specs.Histories.{Tables, Feed}

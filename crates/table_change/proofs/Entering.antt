@@ -12,8 +12,8 @@ use Rattle.page_tree.specs.Row.{Holds}
 use Rattle.page_tree.specs.declared.Row.{Row}
 use Rattle.index_table.specs.Header.{widthOf}
 use Rattle.table_search.specs.declared.Leaf.{Leaf}
-use Rattle.table_calls.specs.Places.{FoundLeaf}
-use Rattle.table_calls.proofs.FoundLeaves.{live-inside}
+use Rattle.table_find.specs.Places.{FoundLeaf}
+use Rattle.table_find.proofs.FoundLeaves.{live-inside}
 use Rattle.table_change.specs.Changes.{isSome, isHeld, onRowOf}
 use Rattle.new_entries.specs.Entries.{refsFor, FoundPre, NewEntries}
 use Rattle.new_entries.specs.declared.entries.News.{News}

@@ -31,10 +31,10 @@ use Rattle.index_table.specs.Soundness.{Sound, treeOf}
 use Rattle.index_table.proofs.SoundTables.{herd-narrow, herd-sorted, herd-keys, keys-narrow}
 use Rattle.index_write.proofs.LoadedRows.{row-with}
 use Rattle.table_search.specs.declared.Leaf.{Leaf}
-use Rattle.table_calls.specs.declared.answer.Answer.{Answer}
-use Rattle.table_calls.specs.Answers.{plain, withRecord, found}
-use Rattle.table_calls.specs.Places.{FoundLeaf}
-use Rattle.table_calls.proofs.FoundLeaves.{dummy-absent, other-absent, live-found, live-inside}
+use Rattle.table_find.specs.declared.answer.Answer.{Answer}
+use Rattle.table_find.specs.Answers.{plain, withRecord, found}
+use Rattle.table_find.specs.Places.{FoundLeaf}
+use Rattle.table_find.proofs.FoundLeaves.{dummy-absent, other-absent, live-found, live-inside}
 use Rattle.new_entries.specs.Entries.{entriesIn, entryOf, refsFor, FoundPre, NewEntries}
 use Rattle.new_entries.specs.declared.entries.News.{News}
 use Rattle.new_entries.proofs.NewLeaves.{news-read, news-fit}

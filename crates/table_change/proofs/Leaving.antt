@@ -14,9 +14,9 @@ use Rattle.leaf_list.specs.Register.{keyAt, herdOf}
 use Rattle.index_table.specs.Header.{widthOf}
 use Rattle.index_table.specs.Soundness.{Sound}
 use Rattle.table_search.specs.declared.Leaf.{Leaf}
-use Rattle.table_calls.specs.Answers.{withRecord}
-use Rattle.table_calls.specs.Places.{FoundLeaf}
-use Rattle.table_calls.proofs.FoundLeaves.{live-found, live-inside}
+use Rattle.table_find.specs.Answers.{withRecord}
+use Rattle.table_find.specs.Places.{FoundLeaf}
+use Rattle.table_find.proofs.FoundLeaves.{live-found, live-inside}
 use Rattle.table_change.specs.Changes.{tooWide, offRowOf}
 use Rattle.table_change.specs.News.{keyIs}
 use Rattle.table_change.specs.FoundKeys.{HeldKey}

@@ -22,7 +22,7 @@ use Rattle.index_write.proofs.HeaderLaws.{root-kept}
 use Rattle.index_write.proofs.LoadedRows.{row-with}
 use Rattle.table_search.specs.declared.Leaf.{Leaf}
 use Rattle.table_search.proofs.WayEnds.{way-end}
-use Rattle.table_calls.specs.Places.{FoundLeaf}
+use Rattle.table_find.specs.Places.{FoundLeaf}
 use Rattle.table_insert.proofs.Puttings.{root-descend}
 use Rattle.table_insert.proofs.FittingRows.{opened, fitting-low, fitting-put}
 use Rattle.new_entries.specs.declared.entries.News.{News}

@@ -18,8 +18,8 @@ use Rattle.index_table.specs.Header.{widthOf, pagesOf}
 use Rattle.index_table.specs.Soundness.{Sound}
 use Rattle.index_table.proofs.SoundTables.{herd-narrow, herd-sorted, herd-held, in-use-inside}
 use Rattle.table_search.specs.declared.Leaf.{Leaf}
-use Rattle.table_calls.specs.declared.answer.Answer.{Answer}
-use Rattle.table_calls.specs.Answers.{plain, found}
+use Rattle.table_find.specs.declared.answer.Answer.{Answer}
+use Rattle.table_find.specs.Answers.{plain, found}
 use Rattle.table_change.specs.Changes.{tooWide, isSome, isHeld, onRow, onRowOf, rowEight, rowSeven, OnDone, OnChanges, offRowOf, OffDone, OffChanges}
 use Rattle.table_change.specs.News.{NewsFor, FreeRecord}
 use Rattle.index_change.specs.Repaging.{Changeable, OffPagesPre, treeWith, lateRowWith, OnPagesPre, Roomy}

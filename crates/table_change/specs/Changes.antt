@@ -17,8 +17,8 @@ use Rattle.index_table.specs.Layout.{layoutOf}
 use Rattle.index_table.specs.Header.{widthOf, entriesOf, pagesOf, rootOf, heldOf, HeaderFrom}
 use Rattle.index_table.specs.Pages.{pagesAt}
 use Rattle.index_table.specs.Soundness.{Sound, treeOf, numberedTreeOf}
-use Rattle.table_calls.specs.declared.answer.Answer.{Answer}
-use Rattle.table_calls.specs.Answers.{plain}
+use Rattle.table_find.specs.declared.answer.Answer.{Answer}
+use Rattle.table_find.specs.Answers.{plain}
 
 -- Row 2: "key of more than W bits".
 abbrev pub tooWide : ℕ → ℕ → Bool

@@ -11,7 +11,7 @@ use Rattle.index_table.specs.Header.{widthOf}
 use Rattle.index_table.specs.Soundness.{Sound}
 use Rattle.index_write.specs.Storing.{rowWith}
 use Rattle.table_search.specs.declared.Leaf.{Leaf}
-use Rattle.table_calls.specs.Places.{FoundLeaf}
+use Rattle.table_find.specs.Places.{FoundLeaf}
 use Rattle.new_entries.specs.declared.entries.News.{News}
 use Rattle.new_entries.specs.Entries.{refsFor, Newly}
 use Rattle.index_change.specs.Repaging.{roomFor}

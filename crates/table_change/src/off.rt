@@ -2,7 +2,7 @@
 ghost use Rattle.index_table.specs.Soundness.{Sound};
 ghost use Rattle.table_change.specs.Changes.{OffDone, OffChanges};
 ghost use Rattle.table_change.specs.FoundKeys.{HeldKey};
-use table_calls::answer::Answer;
+use table_find::answer::Answer;
 use table_search::Leaf;
 
 // A held key is taken out at its leaf, and its record is free.
@@ -24,7 +24,7 @@ pub fn off_sound(index: &mut [u8], keys: &mut [u64], used: &mut [u8], key: u64) 
     if leaf_list::too_wide(index_table::header::width(index), key) {
         return Answer::plain(2);
     }
-    let leaf = table_calls::find::leaf_of(index, keys, used, key);
+    let leaf = table_find::find::leaf_of(index, keys, used, key);
     if !crate::rows::is_key(keys, leaf.pointer, key) {
         return Answer::plain(6);
     }

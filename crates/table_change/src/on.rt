@@ -9,7 +9,7 @@ ghost use Rattle.index_change.specs.Repaging.{Roomy};
 ghost use Rattle.table_change.specs.FoundKeys.{FoundKey, FittingKey};
 use new_entries::entries::News;
 use page_tree::Row;
-use table_calls::answer::Answer;
+use table_find::answer::Answer;
 use table_search::Leaf;
 
 // The key of a record, and its byte.
@@ -95,7 +95,7 @@ fn on_free(index: &mut [u8], keys: &mut [u64], used: &mut [u8], key: u64, record
     requires { ⌜ FreeRecord (now index) (now keys) (now used) key «record» ⌝ }
     ensures { λ r. ⌜ OnChanges (now (index .entry)) (now (keys .entry)) (now (used .entry)) key «record» (now (index .exit)) (now (keys .exit)) (now (used .exit)) r ⌝ }
 {
-    let leaf = table_calls::find::leaf_of(index, keys, used, key);
+    let leaf = table_find::find::leaf_of(index, keys, used, key);
     if crate::rows::is_key(keys, leaf.pointer, key) {
         return Answer::plain(5);
     }

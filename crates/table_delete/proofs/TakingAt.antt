@@ -19,7 +19,7 @@ use Rattle.page_change.proofs.WholePages.{cleared-whole}
 use Rattle.table_search.specs.declared.Leaf.{Leaf}
 use Rattle.table_search.specs.Places.{leftFrom, NextPosition}
 use Rattle.page_delete.specs.OnePage.{NearPre, StruckNear}
-use Rattle.tree_delete.specs.declared.entries.Remnant.{Remnant}
+use Rattle.entry_delete.specs.declared.Remnant.{Remnant}
 use Rattle.tree_delete.specs.Removing.{RemovePre, RemovePost}
 use Rattle.table_delete.specs.Taking.{LowerPre, LowerPost, TakePre, TakeAtPre, TakePost}
 use Rattle.table_delete.specs.Blanking.{Quiet, BlankPre}

@@ -23,9 +23,9 @@ use Rattle.index_table.proofs.NumberLaws.{Bytes}
 use Rattle.index_table.proofs.NumberedPages.{numbered-aside, numbereds-aside, tree-aside}
 use Rattle.index_table.proofs.SoundNodes.{sound-tree, tree-depth}
 use Rattle.table_search.specs.Places.{NextPosition}
-use Rattle.tree_delete.specs.declared.entries.Remnant.{Remnant}
+use Rattle.entry_delete.specs.declared.Remnant.{Remnant}
 use Rattle.tree_delete.specs.Keeping.{numbersAt, Linked, Kept}
-use Rattle.tree_delete.specs.Entries.{parts}
+use Rattle.entry_delete.specs.Entries.{parts}
 use Rattle.tree_delete.specs.Unwinding.{Done}
 use Rattle.tree_delete.specs.Removing.{RemovePre, RemovePost}
 use Rattle.table_delete.specs.Taking.{LowerPre, LowerPost, TakePre, TakePost}

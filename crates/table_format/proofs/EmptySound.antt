@@ -26,7 +26,7 @@ use Rattle.index_table.proofs.PageRows.{length-page-of}
 use Rattle.index_table.proofs.Frames.{stored-refs}
 use Rattle.index_write.proofs.HeaderLaws.{HeaderIs, length-header, header-written, store-header, page-behind}
 use Rattle.index_write.proofs.StoredRows.{all-zeros, zeros-all, zeros-refs, zeros-cleared, HeadOf, row-page-head, page-of-cleared, stored-node, stored-meets, stored-sound}
-use Rattle.table_calls.specs.declared.answer.Answer.{Answer}
+use Rattle.table_find.specs.declared.answer.Answer.{Answer}
 use Rattle.table_format.specs.Format.{formatFits, emptyTable, FormatDoes}
 use Rattle.table_format.proofs.EmptyTables.{over-zeros}
 use Rattle.table_format.proofs.FormatLimits.{FormatFit, fits-says}

@@ -10,8 +10,8 @@ use borrow.Author.Tests.{leb-true, le-leb, eqb-true, eq-eqb}
 use Rattle.index_table.specs.Layout.{layoutOf, pageStart}
 use Rattle.index_table.specs.Soundness.{Limits}
 use Rattle.index_table.proofs.PageBytes.{pages-apart}
-use Rattle.table_calls.specs.declared.answer.Answer.{Answer}
-use Rattle.table_calls.specs.Answers.{plain}
+use Rattle.table_find.specs.declared.answer.Answer.{Answer}
+use Rattle.table_find.specs.Answers.{plain}
 use Rattle.table_format.specs.Format.{within, formatFits, emptyTable, EmptyPre, FormatDoes}
 
 -- The numbers are within the limits, and the tables have their lengths.

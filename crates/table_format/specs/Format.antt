@@ -7,8 +7,8 @@ use lib.Dec.{leb, eqb}
 use lib.ListN.{length, replicate}
 use Rattle.index_table.specs.Layout.{layoutOf, pageSize, pageStart, rowPage}
 use Rattle.index_table.specs.Header.{headerBytes}
-use Rattle.table_calls.specs.declared.answer.Answer.{Answer}
-use Rattle.table_calls.specs.Answers.{plain}
+use Rattle.table_find.specs.declared.answer.Answer.{Answer}
+use Rattle.table_find.specs.Answers.{plain}
 
 -- From low to high.
 abbrev pub within : ℕ → ℕ → ℕ → Bool

@@ -4,7 +4,7 @@ ghost use lib.ListN.{length, replicate};
 ghost use Rattle.table_format.specs.Format.{formatFits, emptyTable, FormatDoes, EmptyPre};
 use index_table::header::Index;
 use index_table::layout::PageNo;
-use table_calls::answer::Answer;
+use table_find::answer::Answer;
 
 // Whether the widths, counts and lengths are within their limits.
 fn format_fits(w: u64, e: u64, p: u64, table: usize, keys: usize, used: usize) -> bool

@@ -6,8 +6,8 @@ use mathlib.Core.List.{List}
 use Prim.Native.Nat.{ℕ}
 use native.Mathlib.Omega.{arith}
 use Rattle.index_table.specs.Soundness.{Sound}
-use Rattle.table_calls.specs.declared.answer.Answer.{Answer}
-use Rattle.table_calls.specs.Answers.{plain}
+use Rattle.table_find.specs.declared.answer.Answer.{Answer}
+use Rattle.table_find.specs.Answers.{plain}
 use Rattle.table_change.specs.Changes.{OnChanges, OffChanges}
 use Rattle.tag_index.specs.Reading.{Judged}
 use Rattle.tag_index.specs.Changing.{OnDoes, OffDoes}

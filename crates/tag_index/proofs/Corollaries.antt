@@ -23,9 +23,9 @@ use Rattle.index_table.specs.Header.{entriesOf, pagesOf}
 use Rattle.index_table.specs.Pages.{usedPages}
 use Rattle.index_table.specs.Soundness.{treeOf, leafEntries}
 use Rattle.index_table.proofs.SoundTables.{herd-narrow, herd-sorted, tree-sound, root-rule, pages-used}
-use Rattle.table_calls.specs.declared.answer.Answer.{Answer}
-use Rattle.table_calls.specs.Answers.{plain, withRecord, found}
-use Rattle.table_calls.specs.Ranges.{recordsBetween, listed}
+use Rattle.table_find.specs.declared.answer.Answer.{Answer}
+use Rattle.table_find.specs.Answers.{plain, withRecord, found}
+use Rattle.table_list.specs.Ranges.{recordsBetween, listed}
 use Rattle.table_change.specs.Changes.{tooWide, isSome, isHeld, onRow, offRow}
 use Rattle.tag_index.specs.Reading.{firstRow, behind}
 use Rattle.tag_index.specs.Histories.{Tables, Call, format, on, off, find, list, check, Reply, answered, sliced, said, OrderedMap, Sizes, sizesOf, Feed, formats, keyWith, mapReply, mapAfter, mapReplies, nothingFed}

@@ -8,8 +8,8 @@ use native.Mathlib.Omega.{arith}
 use lib.Dec.{leb, eqb·suc-zero}
 use Rattle.index_table.specs.Header.{widthOf}
 use Rattle.index_table.specs.Soundness.{Sound}
-use Rattle.table_calls.specs.declared.answer.Answer.{Answer}
-use Rattle.table_calls.specs.Answers.{plain}
+use Rattle.table_find.specs.declared.answer.Answer.{Answer}
+use Rattle.table_find.specs.Answers.{plain}
 use Rattle.table_change.specs.Changes.{tooWide}
 use Rattle.tag_index.specs.Reading.{Judged, FirstRow, behind, keptBehind}
 

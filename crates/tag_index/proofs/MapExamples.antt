@@ -2,7 +2,7 @@
 use mathlib.Core.Path.{_≡_, refl}
 use mathlib.Core.Bool.{true, false}
 use mathlib.Core.List.{List, [], _∷_}
-use Rattle.table_calls.specs.Answers.{plain, withRecord, withCount}
+use Rattle.table_find.specs.Answers.{plain, withRecord, withCount}
 use Rattle.table_format.specs.Format.{formatFits}
 use Rattle.tag_index.specs.Histories.{Call, format, on, off, find, list, check, Reply, answered, sliced, said, Sizes, Feed, nothingFed, emptyMap, mapReplies, mapBehind}
 

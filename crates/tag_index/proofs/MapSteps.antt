@@ -12,8 +12,8 @@ use Rattle.leaf_list.specs.Herd.{Herd, lookup, add, remove}
 use Rattle.leaf_list.specs.Register.{inUse, herdOf}
 use Rattle.index_table.specs.Header.{widthOf, rootOf, HeaderFrom}
 use Rattle.index_table.specs.Soundness.{Sound}
-use Rattle.table_calls.specs.declared.answer.Answer.{Answer}
-use Rattle.table_calls.specs.Answers.{plain}
+use Rattle.table_find.specs.declared.answer.Answer.{Answer}
+use Rattle.table_find.specs.Answers.{plain}
 use Rattle.table_format.specs.Format.{FormatDoes}
 use Rattle.table_format.proofs.EmptySound.{format-sound, format-lengths, format-width, format-empties}
 use Rattle.table_change.specs.Changes.{tooWide, isSome, isHeld, onRow, onRowOf, offRowOf, rowEight, rowSeven}

@@ -7,7 +7,7 @@ use Prim.Native.Nat.{ℕ}
 use contract.Lifetimes.{Lfts}
 use denote.Ref.{RefT}
 use Rattle.index_table.specs.Soundness.{Sound}
-use Rattle.table_calls.specs.declared.answer.Answer.{Answer}
+use Rattle.table_find.specs.declared.answer.Answer.{Answer}
 use Rattle.table_format.specs.Format.{FormatDoes}
 use Rattle.tag_index.specs.Changing.{OnDoes, OffDoes}
 use Rattle.tag_index.specs.Reading.{FindDoes, ListDoes}

@@ -6,9 +6,9 @@ use Prim.Native.Nat.{ℕ}
 use lib.Dec.{leb, eqb}
 use lib.ListN.{length}
 use Rattle.leaf_list.specs.Herd.{Herd, lookup, add, remove}
-use Rattle.table_calls.specs.declared.answer.Answer.{Answer}
-use Rattle.table_calls.specs.Answers.{plain, found}
-use Rattle.table_calls.specs.Ranges.{recordsBetween, listed, listSlice}
+use Rattle.table_find.specs.declared.answer.Answer.{Answer}
+use Rattle.table_find.specs.Answers.{plain, found}
+use Rattle.table_list.specs.Ranges.{recordsBetween, listed, listSlice}
 use Rattle.table_format.specs.Format.{formatFits}
 use Rattle.table_change.specs.Changes.{tooWide, isSome, isHeld, rowEight, rowSeven, onRow, offRow}
 use Rattle.tag_index.specs.Reading.{firstRow, behind, keptBehind}

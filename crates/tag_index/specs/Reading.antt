@@ -10,9 +10,9 @@ use Rattle.leaf_list.specs.Herd.{lookup}
 use Rattle.leaf_list.specs.Register.{herdOf}
 use Rattle.index_table.specs.Header.{widthOf}
 use Rattle.index_table.specs.Soundness.{Sound}
-use Rattle.table_calls.specs.declared.answer.Answer.{Answer}
-use Rattle.table_calls.specs.Answers.{plain, found}
-use Rattle.table_calls.specs.Ranges.{recordsBetween, listed, listSlice}
+use Rattle.table_find.specs.declared.answer.Answer.{Answer}
+use Rattle.table_find.specs.Answers.{plain, found}
+use Rattle.table_list.specs.Ranges.{recordsBetween, listed, listSlice}
 use Rattle.table_change.specs.Changes.{tooWide}
 
 -- Row 1: "tables not sound": sound says whether they are.

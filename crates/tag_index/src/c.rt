@@ -6,7 +6,7 @@ ghost use Rattle.index_table.specs.Soundness.{Sound};
 ghost use Rattle.table_format.specs.Format.{FormatDoes};
 ghost use Rattle.tag_index.specs.Changing.{OnDoes, OffDoes};
 ghost use Rattle.tag_index.specs.Reading.{FindDoes, ListDoes};
-use table_calls::answer::Answer;
+use table_find::answer::Answer;
 
 #[no_mangle]
 pub extern "C" fn tag_index_format(

@@ -1,6 +1,6 @@
 // The calls that change the herd: the check, and the change itself.
 ghost use Rattle.tag_index.specs.Changing.{OnDoes, OffDoes};
-use table_calls::answer::Answer;
+use table_find::answer::Answer;
 
 // A key is held from now on, with a free record.
 pub fn on(index: &mut [u8], keys: &mut [u64], used: &mut [u8], key: u64, record: u32) -> Answer

@@ -4,7 +4,7 @@ ghost use mathlib.Core.Bool.{true};
 ghost use mathlib.Core.Logic.{_↔_};
 ghost use Rattle.index_table.specs.Soundness.{Sound};
 ghost use Rattle.tag_index.specs.Reading.{FirstRow, FindDoes, ListDoes};
-use table_calls::answer::Answer;
+use table_find::answer::Answer;
 
 // Row 1 or 2, the first that applies to the tables and to two keys; 0 if neither does.
 pub fn first_row(index: &[u8], keys: &[u64], used: &[u8], a: u64, b: u64) -> u32
@@ -31,7 +31,7 @@ pub fn find(index: &[u8], keys: &[u64], used: &[u8], key: u64) -> Answer
     if row != 0 {
         return Answer::plain(row);
     }
-    table_calls::find::find_held(index, keys, used, key)
+    table_find::find::find_held(index, keys, used, key)
 }
 
 // The records of the keys from a to b, in key order, as many as the slice holds.
@@ -42,7 +42,7 @@ pub fn list(index: &[u8], keys: &[u64], used: &[u8], a: u64, b: u64, out: &mut [
     if row != 0 {
         return Answer::plain(row);
     }
-    table_calls::list::list_held(index, keys, used, a, b, out)
+    table_list::list_held(index, keys, used, a, b, out)
 }
 
 // Whether the tables are sound.

@@ -1,4 +1,3 @@
-pub mod EntryTurns
 pub mod CalmRows
 pub mod Following
 pub mod FoundPlaces

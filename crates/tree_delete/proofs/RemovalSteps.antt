@@ -7,7 +7,7 @@ use lib.ListN.{length, getD}
 use Rattle.page_tree.specs.Row.{rowOf}
 use Rattle.index_table.specs.Layout.{layoutOf, Ref}
 use Rattle.index_table.specs.Pages.{pagesAt}
-use Rattle.tree_delete.specs.declared.entries.Remnant.{Remnant}
+use Rattle.entry_delete.specs.declared.Remnant.{Remnant}
 use Rattle.tree_delete.specs.declared.rows.Slot.{Slot}
 use Rattle.tree_delete.specs.declared.rows.Swept.{Swept}
 use Rattle.tree_delete.specs.declared.removal.Place.{Place}

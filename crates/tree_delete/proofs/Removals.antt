@@ -18,12 +18,12 @@ use Rattle.index_table.proofs.Frames.{UnchangedRow}
 use Rattle.index_write.specs.Standing.{Owned}
 use Rattle.table_search.specs.Places.{leftFrom, SeekPre, Stopped, DescendPre}
 use Rattle.table_search.proofs.Descents.{descend-within, descend-seek}
-use Rattle.tree_delete.specs.declared.entries.Remnant.{Remnant}
+use Rattle.entry_delete.specs.declared.Remnant.{Remnant}
 use Rattle.tree_delete.specs.declared.rows.Slot.{Slot}
 use Rattle.tree_delete.specs.declared.rows.Swept.{Swept}
 use Rattle.tree_delete.specs.declared.removal.Place.{Place}
 use Rattle.tree_delete.specs.Keeping.{numbersAt, Linked, Kept}
-use Rattle.tree_delete.specs.Entries.{parts, Turned}
+use Rattle.entry_delete.specs.Entries.{parts, Turned}
 use Rattle.tree_delete.specs.Rows.{around, PutPost, SettlePost}
 use Rattle.tree_delete.specs.Unwinding.{SweepPre, sweepAt, SweepPost}
 use Rattle.tree_delete.specs.Removing.{followingAt, AfterPre, RemovePre, LocatePost, RemovePost}

@@ -18,10 +18,10 @@ use Rattle.index_table.specs.Layout.{Layout, layoutOf, Ref}
 use Rattle.index_table.specs.Pages.{pagesAt, numberedAt, met, metAll}
 use Rattle.index_table.proofs.Frames.{UnchangedRow}
 use Rattle.index_write.specs.Standing.{Owned}
-use Rattle.tree_delete.specs.declared.entries.Remnant.{Remnant}
+use Rattle.entry_delete.specs.declared.Remnant.{Remnant}
 use Rattle.tree_delete.specs.declared.rows.Slot.{Slot}
 use Rattle.tree_delete.specs.Keeping.{numbersAt, Linked, Paged, Kept}
-use Rattle.tree_delete.specs.Entries.{parts}
+use Rattle.entry_delete.specs.Entries.{parts}
 use Rattle.tree_delete.specs.Rows.{around, PutPost}
 use Rattle.tree_delete.specs.Unwinding.{BackPre, BackPost, SweepPre, sweepAt, SweepPost}
 use Rattle.tree_delete.proofs.CalmRows.{idle-row}

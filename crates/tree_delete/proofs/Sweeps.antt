@@ -16,10 +16,10 @@ use Rattle.index_table.specs.Layout.{layoutOf, Ref, Within, Fitting}
 use Rattle.index_table.specs.Pages.{Pages, pagesAt, leafOf, numberedAt, met, metAll}
 use Rattle.index_table.proofs.PageBytes.{within-table}
 use Rattle.index_write.specs.Standing.{Owned}
-use Rattle.tree_delete.specs.declared.entries.Remnant.{Remnant}
+use Rattle.entry_delete.specs.declared.Remnant.{Remnant}
 use Rattle.tree_delete.specs.declared.rows.Swept.{Swept}
 use Rattle.tree_delete.specs.Keeping.{numbersAt, Linked, Paged, Kept}
-use Rattle.tree_delete.specs.Entries.{parts, Turned}
+use Rattle.entry_delete.specs.Entries.{parts, Turned}
 use Rattle.tree_delete.specs.Rows.{around, SettlePre, SettlePost}
 use Rattle.tree_delete.specs.Unwinding.{BackPre, Done, BackPost, SweepPre, sweepAt, SweepPost}
 use Rattle.tree_delete.proofs.Settling.{settled-kept, settled-numbers}

@@ -1,5 +1,4 @@
 pub mod Keeping
-pub mod Entries
 pub mod Rows
 pub mod Unwinding
 pub mod Removing

@@ -13,7 +13,7 @@ use Rattle.index_table.specs.Layout.{layoutOf, Ref}
 use Rattle.index_table.specs.Pages.{Pages, pagesAt, nodeAt, numberedAt}
 use Rattle.index_table.specs.Soundness.{SizedPage, SoundBelow}
 use Rattle.table_search.specs.Places.{leftFrom, Stopped}
-use Rattle.tree_delete.specs.declared.entries.Remnant.{Remnant}
+use Rattle.entry_delete.specs.declared.Remnant.{Remnant}
 use Rattle.tree_delete.specs.declared.removal.Place.{Place}
 use Rattle.tree_delete.specs.Keeping.{Linked, Paged}
 use Rattle.tree_delete.specs.Unwinding.{BackPre, Done}

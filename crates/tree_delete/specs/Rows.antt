@@ -7,10 +7,10 @@ use Rattle.page_tree.specs.Rows.{lastDepth}
 use Rattle.page_tree.specs.Row.{depthOf, rowOf}
 use Rattle.page_tree.specs.declared.Row.{Row}
 use Rattle.index_table.specs.Layout.{Within, layoutOf, pageSize, Ref, Fitting, rowPage, store}
-use Rattle.tree_delete.specs.declared.entries.Remnant.{Remnant}
+use Rattle.entry_delete.specs.declared.Remnant.{Remnant}
 use Rattle.tree_delete.specs.declared.rows.Slot.{Slot}
 use Rattle.tree_delete.specs.declared.rows.Swept.{Swept}
-use Rattle.tree_delete.specs.Entries.{parts}
+use Rattle.entry_delete.specs.Entries.{parts}
 
 -- The entries before i and those from w on.
 abbrev pub around : Row → ℕ → ℕ → List Ref

@@ -12,10 +12,10 @@ use Rattle.page_tree.specs.Numbered.{Numbered, stepNumbered}
 use Rattle.index_table.specs.Layout.{layoutOf, Ref}
 use Rattle.index_table.specs.Pages.{pagesAt, numberedAt, met, metAll}
 use Rattle.index_write.specs.Standing.{Owned}
-use Rattle.tree_delete.specs.declared.entries.Remnant.{Remnant}
+use Rattle.entry_delete.specs.declared.Remnant.{Remnant}
 use Rattle.tree_delete.specs.declared.rows.Swept.{Swept}
 use Rattle.tree_delete.specs.Keeping.{numbersAt, Linked, Paged, Kept}
-use Rattle.tree_delete.specs.Entries.{parts}
+use Rattle.entry_delete.specs.Entries.{parts}
 use Rattle.tree_delete.specs.Rows.{around}
 
 -- An entry of rank n below which pages may be changed.

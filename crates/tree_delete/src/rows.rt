@@ -3,7 +3,7 @@ ghost use mathlib.Core.Path.{_≡_};
 ghost use Prim.Native.Nat.{_+_, _-_, _≤_, _<_};
 ghost use Rattle.page_tree.specs.Row.{Holds};
 ghost use Rattle.tree_delete.specs.Rows.{around, PutPost, SettlePre, SettlePost};
-use crate::entries::Remnant;
+use entry_delete::Remnant;
 use index_table::layout::PageNo;
 use index_write::write::free_page;
 use index_write::write::store_page;

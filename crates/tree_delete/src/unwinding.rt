@@ -1,13 +1,13 @@
 // The way back to the left, into the pages below each entry, until nothing is asked.
 ghost use Rattle.tree_delete.specs.Unwinding.{BackPre, BackPost, SweepPre, SweepPost};
-use crate::entries::Remnant;
-use crate::entries::idle;
-use crate::entries::step;
 use crate::rows::Swept;
 use crate::rows::joined;
 use crate::rows::page_of;
 use crate::rows::put;
 use crate::rows::settle;
+use entry_delete::Remnant;
+use entry_delete::idle;
+use entry_delete::step;
 use index_table::layout::PageNo;
 use index_write::rows::load_page;
 use page_tree::Row;

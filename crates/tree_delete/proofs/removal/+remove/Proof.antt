@@ -12,7 +12,7 @@ use Rattle.tree_delete.proofs.removal.remove.Kinds as remove-kinds
 use Rattle.tree_delete.proofs.removal.+remove.Lts-remove as remove-lts
 use Rattle.page_tree.proofs.Row.depth.Reads as depth-reads
 use Rattle.page_tree.proofs.Row.pointer.Reads as pointer-reads
-use Rattle.tree_delete.proofs.entries.strike.Reads as strike-reads
+use Rattle.entry_delete.proofs.strike.Reads as strike-reads
 use Rattle.tree_delete.proofs.removal.locate.Reads as locate-reads
 use Rattle.tree_delete.proofs.rows.page_of.Reads as page-of-reads
 use Rattle.tree_delete.proofs.rows.put.Reads as put-reads

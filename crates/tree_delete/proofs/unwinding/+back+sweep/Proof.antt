@@ -16,8 +16,8 @@ use Rattle.tree_delete.proofs.unwinding.+back+sweep.Lts-back as back-lt
 use Rattle.tree_delete.proofs.unwinding.sweep.Reads as sweep
 use Rattle.tree_delete.proofs.unwinding.sweep.Kinds as sweep-kinds
 use Rattle.tree_delete.proofs.unwinding.+back+sweep.Lts-sweep as sweep-lts
-use Rattle.tree_delete.proofs.entries.idle.Reads as idle-reads
-use Rattle.tree_delete.proofs.entries.step.Reads as step-reads
+use Rattle.entry_delete.proofs.idle.Reads as idle-reads
+use Rattle.entry_delete.proofs.step.Reads as step-reads
 use Rattle.tree_delete.proofs.rows.joined.Reads as joined-reads
 use Rattle.tree_delete.proofs.rows.page_of.Reads as page-of-reads
 use Rattle.tree_delete.proofs.rows.put.Reads as put-reads

@@ -1,4 +1,0 @@
-pub mod Answers
-pub mod Ranges
-pub mod Places
-pub mod Listings

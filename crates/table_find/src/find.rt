@@ -1,0 +1,42 @@
+// Find, behind the check.
+ghost use mathlib.Core.Path.{_≡_};
+ghost use Prim.Native.Nat.{_<_, _^_};
+ghost use Rattle.leaf_list.specs.Herd.{lookup};
+ghost use Rattle.leaf_list.specs.Register.{herdOf};
+ghost use Rattle.index_table.specs.Header.{widthOf};
+ghost use Rattle.index_table.specs.Soundness.{Sound};
+ghost use Rattle.table_find.specs.Answers.{found};
+ghost use Rattle.table_find.specs.Places.{FoundLeaf};
+use crate::answer::Answer;
+use index_table::header::Index;
+use table_search::Leaf;
+
+// The entry on level 0 at which the search for a key ends.
+pub fn leaf_of(index: &[u8], keys: &[u64], used: &[u8], key: u64) -> Leaf
+    requires { ⌜ Sound (now index) (now keys) (now used) × (key < 2 ^ widthOf (now index)) ⌝ }
+    ensures { λ r. ⌜ FoundLeaf (now (index .entry)) (now (keys .entry)) (now (used .entry)) key r ⌝ }
+{
+    let h = index_table::header::read(index);
+    let w = index_table::layout::deep(h.width);
+    let e = h.entries;
+    let level = index_table::layout::level(index, e, h.root);
+    let position = table_search::next_position(w, key, 0);
+    table_search::descend(index, e, h.pages, level, h.root, w, key, position, 0)
+}
+
+// The record of a held key: only a live leaf yields one, and its key is compared whole.
+pub fn find_held(index: &[u8], keys: &[u64], used: &[u8], key: u64) -> Answer
+    requires { ⌜ Sound (now index) (now keys) (now used) × (key < 2 ^ widthOf (now index)) ⌝ }
+    ensures { λ r. ⌜ r ≡ found (lookup key (herdOf (now (keys .entry)) (now (used .entry)))) ⌝ }
+{
+    let leaf = leaf_of(index, keys, used, key);
+    let answer = index_table::layout::answer_of(leaf.pointer);
+    let index_table::layout::Answer::Live(record) = answer else {
+        return Answer::plain(6);
+    };
+    let at = record.0 as usize;
+    if keys[at] != key {
+        return Answer::plain(6);
+    }
+    Answer::with_record(record.0)
+}
