@@ -2,7 +2,7 @@
 use mathlib.Core.Path.{_≡_}
 use mathlib.Core.Bool.{Bool, true, false, cond}
 use mathlib.Core.List.{List, [], _∷_, map}
-use Prim.Native.Nat.{_<_}
+use Prim.Native.Nat.{ℕ, _≤_, _<_}
 use Rattle.leaf_list.specs.Entries.{Entry}
 use Rattle.page_tree.specs.Rows.{All}
 use Rattle.page_tree.specs.OffPages.{Left}
@@ -32,3 +32,9 @@ isIdle (Clear d) = false
 pub record IdlePost (s : Unwind) (r : Bool) : Type 0 where
   pub is : r ≡ isIdle s
   pub yes : r ≡ true → s ≡ Idle
+
+-- What is asked changes no entry of depth τ: nothing is, or that dummies go which are deeper than a depth that is not below τ.
+abbrev pub Calm : ℕ → Unwind → Type 0
+Calm τ Idle = Unit {0}
+Calm τ (Give d) = ⊥
+Calm τ (Clear g) = τ ≤ g

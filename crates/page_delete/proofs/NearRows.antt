@@ -7,7 +7,7 @@ use Prim.Native.Nat.{ℕ, suc, _+_, _-_, _≤_, _<_}
 use native.Mathlib.Omega.{arith}
 use native.Mathlib.Numerals.{add-one}
 use lib.ListN.{length, getD, take, drop, set, length-append, length-take, length-drop, length-set, take-append-drop}
-use lib.Seq.{drop-cons, drop-set-lt, getD-set-same, split-at, take-set-le, set-split}
+use lib.Seq.{drop-cons, split-at, take-set-le, set-split}
 use borrow.Author.Tests.{lt-ltb, le-ltb}
 use Rattle.leaf_list.specs.Entries.{Entry, entry}
 use Rattle.leaf_list.proofs.Lists.{all-append}
@@ -16,21 +16,16 @@ use Rattle.page_tree.specs.Row.{depthOf}
 use Rattle.page_tree.specs.declared.Unwind.{Unwind}
 use Rattle.page_tree.specs.declared.Unwind.the-variants.{Idle, Give, Clear}
 use Rattle.page_tree.specs.OffPages.{Left, stepEntry, sweep, nextDepth}
-use Rattle.page_tree.proofs.ListLaws.{all-left, all-right}
+use Rattle.page_tree.proofs.ListLaws.{all-left, all-right, drop-set}
 use Rattle.page_tree.proofs.ClosedRows.{lastDepth-append}
 use Rattle.index_table.specs.Layout.{layoutOf, Ref, Within, pageBytes, countOf, refAt, Fitting, rowPage, store}
 use Rattle.index_table.specs.Pages.{pagesAt, leafOf}
 use Rattle.index_table.proofs.PageRows.{length-refs, getD-refs, take-refs}
+use Rattle.entry_delete.specs.Entries.{Calm}
 use Rattle.page_change.specs.Changing.{WholePage, withRow, without}
 use Rattle.page_change.proofs.PageChanges.{row-read, row-whole, row-again}
-use Rattle.page_delete.specs.OnePage.{leafRow, Calm, askedBefore, Staying, NearPre, FollowedPre, GivePre, NearDone, NearPost, struckAt, StrikePost, DummyPost}
+use Rattle.page_delete.specs.OnePage.{leafRow, askedBefore, Staying, NearPre, FollowedPre, GivePre, NearDone, NearPost, struckAt, StrikePost, DummyPost}
 use Rattle.page_delete.proofs.StayingEntries.{sweep-last, idle-leaves}
-
--- The entries from a place on, where another was put there.
-pub drop-set : (l : List Ref) (i : ℕ) (a : Ref) → i < length l → drop i (set l i a) ≡ a ∷ drop (suc i) l
-drop-set l i a h =
-    drop-cons (set l i a) i (0, 0) (omega (arith, length-set l i a))
-    ∙ ap₂ (λ (y : Ref) (r : List Ref). y ∷ r) (getD-set-same l i a (0, 0) h) (drop-set-lt (suc i) l i a (omega arith))
 
 true-false : _≡_ {A = Bool} true false → ⊥
 true-false y = absurd (let z : _≡_ {A = ℕ} 1 0 = ap (λ (t : Bool). cond t 1 0) y in omega arith)

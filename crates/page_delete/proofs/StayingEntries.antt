@@ -15,7 +15,8 @@ use Rattle.page_tree.proofs.WalkPlaces.{sweep-append}
 use Rattle.index_table.specs.Layout.{layoutOf, Ref, pageBytes, refAt}
 use Rattle.index_table.specs.Pages.{pagesAt, leafOf}
 use Rattle.index_table.proofs.PageRows.{length-refs, take-refs}
-use Rattle.page_delete.specs.OnePage.{leafRow, Calm, askedBefore, Staying}
+use Rattle.entry_delete.specs.Entries.{Calm}
+use Rattle.page_delete.specs.OnePage.{leafRow, askedBefore, Staying}
 
 -- ---- one entry on the way back
 

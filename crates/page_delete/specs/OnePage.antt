@@ -9,20 +9,15 @@ use Rattle.page_tree.specs.Rows.{lastDepth}
 use Rattle.page_tree.specs.Row.{depthOf}
 use Rattle.page_tree.specs.OffPages.{Left, stepEntry, sweep, nextDepth, strike}
 use Rattle.page_tree.specs.declared.Unwind.{Unwind}
-use Rattle.page_tree.specs.declared.Unwind.the-variants.{Idle, Give, Clear}
+use Rattle.page_tree.specs.declared.Unwind.the-variants.{Idle, Clear}
 use Rattle.index_table.specs.Layout.{layoutOf, Ref, pageBytes, levelOf, Fitting, rowPage, store}
 use Rattle.index_table.specs.Pages.{pagesAt, leafOf}
+use Rattle.entry_delete.specs.Entries.{Calm}
 use Rattle.page_change.specs.Changing.{WholePage}
 
 -- A row of a page of level 0 as entries of the leaf list.
 abbrev pub leafRow : List Ref → List Entry
 leafRow row = map (leafOf 65535) row
-
--- What is asked changes no entry of depth τ: nothing is, or that dummies go which are deeper than a depth that is not below τ.
-abbrev pub Calm : ℕ → Unwind → Type 0
-Calm τ Idle = Unit {0}
-Calm τ (Give d) = ⊥
-Calm τ (Clear g) = τ ≤ g
 
 -- What is asked of the page before, where dummies deeper than g go from the right and r entries stay.
 abbrev pub askedBefore : ℕ → ℕ → Unwind

@@ -1,9 +1,9 @@
--- Lists: what holds of each element, rows of rows, sums. Assumes nothing.
+-- Lists: what holds of each element, one put in place of another, rows of rows, sums. Assumes nothing.
 use mathlib.Core.Path.{_≡_, refl, ap, sym}
 use mathlib.Core.List.{List, [], _∷_, _++_, append-assoc, foldr}
-use Prim.Native.Nat.{ℕ, suc, _+_}
+use Prim.Native.Nat.{ℕ, zero, suc, _+_, _<_}
 use native.Mathlib.Omega.{arith}
-use lib.ListN.{length}
+use lib.ListN.{length, drop, set}
 use Rattle.page_tree.specs.Rows.{All, concat, flats, sum}
 
 -- What holds of each of a joined list holds of the first list,
@@ -20,6 +20,12 @@ all-right P (x ∷ xs) ys h = all-right P xs ys (h .1)
 pub all-unit : {A : Type 0} (xs : List A) → All (λ x. Unit {0}) xs
 all-unit [] = tt
 all-unit (x ∷ xs) = (tt, all-unit xs)
+
+-- The elements from a place on, where another was put there.
+pub drop-set : {A : Type 0} (l : List A) (i : ℕ) (a : A) → i < length l → drop i (set l i a) ≡ a ∷ drop (suc i) l
+drop-set [] i a h = absurd (omega arith)
+drop-set (x ∷ xs) zero a h = refl
+drop-set (x ∷ xs) (suc i) a h = drop-set xs i a (omega arith)
 
 -- Two lists of rows.
 pub concat-append : {A : Type 0} (xs ys : List (List A)) → concat (xs ++ ys) ≡ concat xs ++ concat ys

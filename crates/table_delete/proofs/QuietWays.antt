@@ -21,7 +21,8 @@ use Rattle.table_search.specs.declared.Spot.{Spot}
 use Rattle.table_search.specs.declared.Leaf.{Leaf}
 use Rattle.table_search.specs.Places.{leftFrom, Stopped, Way}
 use Rattle.table_search.proofs.Descents.{descend-within}
-use Rattle.page_delete.specs.OnePage.{Calm, leafRow, NearDone, StruckNear}
+use Rattle.entry_delete.specs.Entries.{Calm}
+use Rattle.page_delete.specs.OnePage.{leafRow, NearDone, StruckNear}
 use Rattle.tree_delete.specs.Keeping.{numbersAt, Linked, Kept}
 use Rattle.tree_delete.specs.Rows.{settled, entryFor}
 use Rattle.tree_delete.specs.Removing.{followingAt, RemovePre}

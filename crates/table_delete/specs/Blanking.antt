@@ -11,7 +11,7 @@ use Rattle.index_table.specs.Soundness.{Cleared}
 use Rattle.table_search.specs.Places.{leftFrom}
 use Rattle.tree_delete.specs.Keeping.{Kept}
 use Rattle.tree_delete.specs.Removing.{RemovePre}
-use Rattle.page_delete.specs.OnePage.{Calm}
+use Rattle.entry_delete.specs.Entries.{Calm}
 
 -- The entry x of rank n stays where ν follows it, and what is asked changes no entry of the depth τ before it. Above level 0 its page stays too.
 pub record Quiet (e P n : ℕ) (b : List ℕ) (x : Ref) (bs : List ℕ) (τ ν : ℕ) (b′ : List ℕ) : Type 0 where

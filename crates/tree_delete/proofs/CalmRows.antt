@@ -16,7 +16,7 @@ use Rattle.page_tree.specs.Numbered.{Numbered, keptUnder, stepNumbered}
 use Rattle.index_table.specs.Layout.{Layout, Ref}
 use Rattle.index_table.specs.Pages.{pagesAt, numberedAt, leafOf}
 use Rattle.tree_delete.specs.Keeping.{numbersAt, Linked}
-use Rattle.page_delete.specs.OnePage.{Calm}
+use Rattle.entry_delete.specs.Entries.{Calm}
 
 -- What is asked before a row whose last entry stays; an empty row asks what it is asked.
 abbrev pub askedPast : List Ref → Unwind → Unwind

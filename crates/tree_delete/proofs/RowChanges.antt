@@ -12,7 +12,7 @@ use Rattle.page_tree.specs.declared.Row.{Row}
 use Rattle.page_tree.proofs.RowLaws.{part-of-row}
 use Rattle.index_table.specs.Layout.{layoutOf, pageSize, Ref, rowPage, store}
 use Rattle.index_write.specs.Storing.{Storable}
-use Rattle.page_delete.proofs.NearRows.{drop-set}
+use Rattle.page_tree.proofs.ListLaws.{drop-set}
 use Rattle.entry_delete.specs.declared.Remnant.{Remnant}
 use Rattle.tree_delete.specs.declared.rows.Swept.{Swept}
 use Rattle.tree_delete.specs.Rows.{around, PutPost, settledPage, entryFor, SettlePre, SettlePost}

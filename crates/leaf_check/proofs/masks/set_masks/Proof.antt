@@ -1,6 +1,6 @@
 -- The masks before depth d are set, and the next one is at hand. Assumes nothing.
 use mathlib.Core.Path.{_≡_, refl, subst}
-use Prim.Native.Nat.{ℕ, suc, _+_, _-_, _≤_, _<_, _^_}
+use Prim.Native.Nat.{suc, _+_, _-_, _≤_, _<_, _^_}
 use native.Mathlib.Omega.{arith}
 use borrow.Author.Needs.{needs}
 use Rattle.leaf_check.proofs.DepthTable.{SetBefore, half, set-none, set-more, set-all}
