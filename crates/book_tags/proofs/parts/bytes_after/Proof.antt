@@ -4,8 +4,8 @@ use native.Mathlib.Omega.{arith}
 use lib.ListN.{length, drop, length-drop}
 use lib.Seq.{take-all}
 use borrow.Author.Needs.{needs}
-use Rattle.book_lines.proofs.fields.bytes_after.Statement.{statement}
-use Rattle.book_lines.proofs.fields.bytes_after.Tie as tie
+use Rattle.book_tags.proofs.parts.bytes_after.Statement.{statement}
+use Rattle.book_tags.proofs.parts.bytes_after.Tie as tie
 
 sub-result : tie.Need-sub-result
 sub-result c = search needs

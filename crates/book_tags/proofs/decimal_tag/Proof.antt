@@ -1,10 +1,10 @@
 -- The answer of the tag code decides. Assumes nothing.
 use mathlib.Core.Path.{sym}
-use Rattle.book_lines.specs.Lines.{decimalTag}
-use Rattle.book_lines.proofs.TagLaws.{decimal-key, decimal-refused}
+use Rattle.book_tags.specs.Tags.{decimalTag}
+use Rattle.book_tags.proofs.TagLaws.{decimal-key, decimal-refused}
 use borrow.Author.Needs.{needs}
-use Rattle.book_lines.proofs.tags.decimal_tag.Statement.{statement}
-use Rattle.book_lines.proofs.tags.decimal_tag.Tie as tie
+use Rattle.book_tags.proofs.decimal_tag.Statement.{statement}
+use Rattle.book_tags.proofs.decimal_tag.Tie as tie
 
 enum-known-country : tie.Need-enum-known-country
 enum-known-country c = search needs

@@ -1,10 +1,10 @@
 -- The tests pick the digit by the range of its byte. Assumes nothing.
 use mathlib.Core.Path.{sym}
 use native.Mathlib.Omega.{arith}
-use Rattle.book_lines.proofs.NumberLaws.{digit-decimal, digit-letter, digit-none}
+use Rattle.book_tags.proofs.NumberLaws.{digit-decimal, digit-letter, digit-none}
 use borrow.Author.Needs.{needs}
-use Rattle.book_lines.proofs.digits.digit.Statement.{statement}
-use Rattle.book_lines.proofs.digits.digit.Tie as tie
+use Rattle.book_tags.proofs.digits.digit.Statement.{statement}
+use Rattle.book_tags.proofs.digits.digit.Tie as tie
 
 returns : tie.Need-returns
 returns c = sym (digit-none _ (λ a b. omega arith) (λ a b. omega arith))

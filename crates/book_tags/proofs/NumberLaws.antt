@@ -10,9 +10,9 @@ use lib.Dec.{ltb, leb}
 use lib.ListN.{length, drop, getD}
 use lib.Seq.{drop-cons, drop-length}
 use borrow.Author.Tests.{lt-ltb, le-ltb, ltb-true, le-leb, leb-true}
-use Rattle.book_lines.specs.declared.digits.Number.{Number}
-use Rattle.book_lines.specs.declared.digits.Number.the-variants as number
-use Rattle.book_lines.specs.Lines.{between, digitOf, numberAfter, numberOf, recordOf, recordAtMost}
+use Rattle.book_tags.specs.declared.digits.Number.{Number}
+use Rattle.book_tags.specs.declared.digits.Number.the-variants as number
+use Rattle.book_tags.specs.Tags.{between, digitOf, numberAfter, numberOf, recordOf, recordAtMost}
 
 -- The value of a digit by its byte.
 pub digit-decimal : (byte : ℕ) → 48 ≤ byte → byte ≤ 57 → digitOf byte ≡ byte - 48

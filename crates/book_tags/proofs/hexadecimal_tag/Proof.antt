@@ -1,10 +1,10 @@
 -- The answer of the tag code decides. Assumes nothing.
 use mathlib.Core.Path.{sym}
-use Rattle.book_lines.specs.Lines.{hexadecimalTag}
-use Rattle.book_lines.proofs.TagLaws.{hexadecimal-key, hexadecimal-refused}
+use Rattle.book_tags.specs.Tags.{hexadecimalTag}
+use Rattle.book_tags.proofs.TagLaws.{hexadecimal-key, hexadecimal-refused}
 use borrow.Author.Needs.{needs}
-use Rattle.book_lines.proofs.tags.hexadecimal_tag.Statement.{statement}
-use Rattle.book_lines.proofs.tags.hexadecimal_tag.Tie as tie
+use Rattle.book_tags.proofs.hexadecimal_tag.Statement.{statement}
+use Rattle.book_tags.proofs.hexadecimal_tag.Tie as tie
 
 enum-known-code : tie.Need-enum-known-code
 enum-known-code c = search needs

@@ -4,11 +4,11 @@ use native.Mathlib.Omega.{arith}
 use Prim.Native.Nat.{ℕ}
 use mathlib.Core.List.{List}
 use lib.ListN.{length, length-take, length-drop}
-use Rattle.book_lines.specs.Lines.{numberOf, decimalTag, hexadecimalTag}
-use Rattle.book_lines.proofs.TagLaws.{tag-decimal, tag-length, tag-letter, tag-hexadecimal}
+use Rattle.book_tags.specs.Tags.{numberOf, decimalTag, hexadecimalTag}
+use Rattle.book_tags.proofs.TagLaws.{tag-decimal, tag-length, tag-letter, tag-hexadecimal}
 use borrow.Author.Needs.{needs}
-use Rattle.book_lines.proofs.tags.read_tag.Statement.{statement}
-use Rattle.book_lines.proofs.tags.read_tag.Tie as tie
+use Rattle.book_tags.proofs.read_tag.Statement.{statement}
+use Rattle.book_tags.proofs.read_tag.Tie as tie
 
 first-bytes-requires : tie.Need-first-bytes-requires
 first-bytes-requires c κs = search needs

@@ -8,11 +8,11 @@ use borrow.Author.Tests.{eq-eqb, ne-eqb, le-leb, lt-leb}
 use Rattle.tag_code.specs.declared.Packed.{Packed}
 use Rattle.tag_code.specs.declared.Unpacked.{Unpacked}
 use Rattle.tag_code.specs.TagCode.{packed, unpacked}
-use Rattle.book_lines.specs.declared.digits.Number.{Number}
-use Rattle.book_lines.specs.declared.digits.Number.the-variants as number
-use Rattle.book_lines.specs.declared.tags.Tag.{Tag}
-use Rattle.book_lines.specs.declared.tags.Tag.the-variants as tag
-use Rattle.book_lines.specs.Lines.{numberOf, decimalFields, decimalTag, hexadecimalTag, tagOf, recordOf}
+use Rattle.book_tags.specs.declared.digits.Number.{Number}
+use Rattle.book_tags.specs.declared.digits.Number.the-variants as number
+use Rattle.book_tags.specs.declared.Tag.{Tag}
+use Rattle.book_tags.specs.declared.Tag.the-variants as tag
+use Rattle.book_tags.specs.Tags.{numberOf, decimalFields, decimalTag, hexadecimalTag, tagOf, recordOf}
 
 -- A decimal tag, by the answer of the tag code.
 module _ (x y : Number) (country national : ℕ) (p : x ≡ number.Is country) (q : y ≡ number.Is national)

@@ -1,10 +1,13 @@
-// Tags and records of a line.
+// The tags and records that the fields of a line write.
+pub mod digits;
+pub mod parts;
+
 ghost use mathlib.Core.Path.{_≡_};
-ghost use Rattle.book_lines.specs.Lines.{tagOf, decimalTag, hexadecimalTag, recordOf};
-use super::digits::Number;
-use super::digits::read_number;
-use super::fields::bytes_after;
-use super::fields::first_bytes;
+ghost use Rattle.book_tags.specs.Tags.{tagOf, decimalTag, hexadecimalTag, recordOf};
+use digits::Number;
+use digits::read_number;
+use parts::bytes_after;
+use parts::first_bytes;
 use tag_code::TagFields;
 use tag_code::pack;
 use tag_code::unpack;

@@ -1,9 +1,9 @@
 -- The length decides, then the digits. Assumes nothing.
 use mathlib.Core.Path.{sym, _∙_}
-use Rattle.book_lines.proofs.TagLaws.{record-short, record-long, record-number}
+use Rattle.book_tags.proofs.TagLaws.{record-short, record-long, record-number}
 use borrow.Author.Needs.{needs}
-use Rattle.book_lines.proofs.tags.read_record.Statement.{statement}
-use Rattle.book_lines.proofs.tags.read_record.Tie as tie
+use Rattle.book_tags.proofs.read_record.Statement.{statement}
+use Rattle.book_tags.proofs.read_record.Tie as tie
 
 returns : tie.Need-returns
 returns c = sym (record-short _ (c .if1 .taken))

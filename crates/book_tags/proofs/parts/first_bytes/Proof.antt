@@ -2,8 +2,8 @@
 use mathlib.Core.Path.{sym}
 use lib.Seq.{length-take-le}
 use borrow.Author.Needs.{needs}
-use Rattle.book_lines.proofs.fields.first_bytes.Statement.{statement}
-use Rattle.book_lines.proofs.fields.first_bytes.Tie as tie
+use Rattle.book_tags.proofs.parts.first_bytes.Statement.{statement}
+use Rattle.book_tags.proofs.parts.first_bytes.Tie as tie
 
 slice-aggregate-result : tie.Need-slice-aggregate-result
 slice-aggregate-result c = sym (length-take-le (c .before .args .count) (c .before .args .bytes .now) (c .before .pre))

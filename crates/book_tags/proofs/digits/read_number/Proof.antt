@@ -4,11 +4,11 @@ use Prim.Native.Nat.{_≤_, _<_, _-_, _^_}
 use native.Mathlib.Omega.{arith}
 use native.Mathlib.Numerals.{add-one}
 use lib.ListN.{length, drop}
-use Rattle.book_lines.specs.Lines.{numberAfter, numberOf}
-use Rattle.book_lines.proofs.NumberLaws.{number-none, number-more, number-end, digit-fits, digit-grows}
+use Rattle.book_tags.specs.Tags.{numberAfter, numberOf}
+use Rattle.book_tags.proofs.NumberLaws.{number-none, number-more, number-end, digit-fits, digit-grows}
 use borrow.Author.Needs.{needs}
-use Rattle.book_lines.proofs.digits.read_number.Statement.{statement}
-use Rattle.book_lines.proofs.digits.read_number.Tie as tie
+use Rattle.book_tags.proofs.digits.read_number.Statement.{statement}
+use Rattle.book_tags.proofs.digits.read_number.Tie as tie
 
 abbrev Inv-loop : tie.InvT-loop
 Inv-loop digits base value₀ i₀ value i = (i ≤ length digits) × (value < 16 ^ i) × (numberAfter base value (drop i digits) ≡ numberOf base digits)

@@ -2,7 +2,7 @@
 ghost use mathlib.Core.Path.{_≡_};
 ghost use Prim.Native.Nat.{_≤_};
 ghost use lib.ListN.{length};
-ghost use Rattle.book_lines.specs.Lines.{digitOf, numberOf};
+ghost use Rattle.book_tags.specs.Tags.{digitOf, numberOf};
 
 // The number that digits write, or none where a byte is no digit.
 pub enum Number {
