@@ -9,13 +9,13 @@ use lib.ListN.{length, take, drop-of-length-le}
 use Rattle.tag_index.specs.Histories.{Tables, Feed, emptyMap}
 use Rattle.tag_index.specs.Claims.{Agrees}
 use Rattle.tag_index.proofs.Runs.{Lent}
+use Rattle.book_input.specs.declared.Progress.{Progress}
 use Rattle.book_input.specs.Lines.{begunBefore, linesOf, linesMet, leftOpen}
 use Rattle.book_input.proofs.GatheredLines.{met-lines, passes-all, passes-behind}
 use Rattle.day_book.specs.Books.{printed, mapBehindLines}
 use Rattle.day_book.specs.LineAnswers.{Told}
 use Rattle.day_book.proofs.ToldLines.{told-both, told-cut}
 use Rattle.day_book.proofs.EveryBook.{Opened, bookSizes, every-told}
-use Rattle.book_chunks.specs.declared.Progress.{Progress}
 use Rattle.book_chunks.specs.Chunks.{begun, unread, Answered, Settled, ChunkDoes}
 use Rattle.book_chunks.proofs.answer_chunk.Reads as chunk-reads
 use Rattle.book_chunks.proofs.answer_last.Reads as last-reads

@@ -8,16 +8,16 @@ use lib.ListN.{length, take, drop, length-drop, length-append, drop-of-length-le
 use lib.Seq.{take-all, take-at, drop-at, drop-drop, take-add, length-take-le}
 use borrow.Rule.Slice.PartMut.{putMid, midOf, postOf}
 use Rattle.tag_index.specs.Histories.{Tables}
-use Rattle.book_input.specs.declared.Taken.{Taken}
+use Rattle.book_input.specs.declared.Progress.{Progress}
+use Rattle.book_input.specs.declared.Next.{Next}
 use Rattle.book_input.specs.Lines.{begunBefore}
-use Rattle.book_input.specs.Gathering.{Takes}
+use Rattle.book_input.specs.Progress.{TakesNext, lineAnswered}
 use Rattle.book_input.proofs.TakenPlaces.{taken-inside, taken-onward, taken-room, taken-lent}
 use Rattle.book_input.proofs.GatheredLines.{passes-none, passes-both, takes-line, takes-part}
 use Rattle.book_lines.specs.Lines.{meaning}
 use Rattle.day_book.specs.Books.{shownLine, feedOfSaid}
 use Rattle.day_book.specs.LineAnswers.{LineDoes, end}
 use Rattle.day_book.proofs.ToldLines.{told-line, told-both}
-use Rattle.book_chunks.specs.declared.Progress.{Progress}
 use Rattle.book_chunks.specs.Chunks.{begun, Ready, TurnReady, WithRoom, Answered, Settled, Passed, TurnDoes, ChunkDoes}
 
 -- ---- lines answered
@@ -57,11 +57,10 @@ answered-both {lines = lines} {more = more} {out = out} {out₁ = out₁} {p = p
     }
 
 -- The line that is held, behind the answers before.
-pub held-settled : (t u : Tables) (held out : List ℕ) (p : Progress) (ys : List ℕ) (m : ℕ) → WithRoom held out p
+pub held-settled : (t u : Tables) (held out : List ℕ) (p : Progress) (ys : List ℕ) (m : ℕ) (r : Progress) → WithRoom held out p
     → LineDoes t (begun held p) (p .lines + 1) (midOf (p .filled) (length out - p .filled) out) u ys m
-    → Settled t (begun held p ∷ []) out p u (putMid (p .filled) (length out - p .filled) out ys)
-    (record { lines = p .lines + 1; held = 0; at = p .at; filled = p .filled + m })
-held-settled t u held out p ys m room does =
+    → r ≡ lineAnswered p (p .filled + m) → Settled t (begun held p ∷ []) out p u (putMid (p .filled) (length out - p .filled) out ys) r
+held-settled t u held out p ys m r room does e =
     let f : ℕ = p .filled in
     let fits : f + 256 ≤ length out = room .answer in
     let rest : length (drop f out) ≤ length out - f = rw length-drop (omega arith) in
@@ -73,7 +72,8 @@ held-settled t u held out p ys m room does =
     let written = does .shows .written in
     let long : length ys ≡ length out - f = written .long ∙ ap length middle ∙ length-drop f out in
     let number : p .lines + 1 ≡ suc (p .lines) = omega arith in
-    record {
+    rw e
+    (record {
       answered = record {
         feeds = feedOfSaid t (meaning (begun held p)) ∷ [];
         printed = shownLine (p .lines + 1) shown;
@@ -87,7 +87,7 @@ held-settled t u held out p ys m room does =
       };
       none = refl;
       place = refl;
-    }
+    })
 
 -- At the end of the input: none, or the line that is held.
 begun-none : (held : List ℕ) (n : ℕ) → n ≡ 0 → [] ≡ begunBefore (take n held) []
@@ -127,54 +127,54 @@ passed-both a b = record {
 
 -- ---- one turn
 
--- The progress when a line, or a part of it, is taken.
-abbrev pub further : Progress → Taken → Progress
-further p taken = record { lines = p .lines; held = taken .length; at = taken .at; filled = p .filled }
+module _ {chunk held out after : List ℕ} {p : Progress} {next : Next} (pre : TurnReady chunk held out p)
+    (does : TakesNext chunk held p after next) where
+  -- Taking answers no line.
+  none-answered : {t : Tables} → Answered t [] out p t out (next .progress)
+  none-answered = answered-none p (next .progress) (pre .ready .space) (does .lines) (does .filled)
 
-module _ {chunk held out after : List ℕ} {p : Progress} {taken : Taken} (pre : TurnReady chunk held out p)
-    (takes : Takes chunk (p .at) held (p .held) after taken) where
   -- The answer of a line that is taken has its room and its number.
-  pub turn-room : WithRoom after out (further p taken)
+  pub turn-room : WithRoom after out (next .progress)
   turn-room = record {
-    lent = taken-lent takes (pre .ready .lent);
-    room = taken-room takes;
-    answer = pre .answer;
-    number = omega (arith, pre .ready .numbers, pre .some);
+    lent = taken-lent (does .takes) (pre .ready .lent);
+    room = taken-room (does .takes);
+    answer = omega (arith, pre .answer, does .filled);
+    number = omega (arith, pre .ready .numbers, pre .some, does .lines);
   }
 
   -- A turn that takes a part of a line,
-  pub turn-part : {t : Tables} → taken .whole ≡ false → TurnDoes t chunk held out p t after out (further p taken)
+  pub turn-part : {t : Tables} → next .whole ≡ false → TurnDoes t chunk held out p t after out (next .progress)
   turn-part unmet = record {
     passed = record {
       lines = [];
-      passes = takes-part (pre .ready .room) takes unmet;
-      answered = answered-none p (further p taken) (pre .ready .space) refl refl;
+      passes = takes-part (pre .ready .room) (does .takes) unmet;
+      answered = none-answered;
       ready = record {
-        lent = taken-lent takes (pre .ready .lent);
-        room = taken-room takes;
-        inside = taken-inside takes (pre .ready .inside);
-        space = pre .ready .space;
-        numbers = omega (arith, pre .ready .numbers, taken-onward takes (pre .some));
+        lent = taken-lent (does .takes) (pre .ready .lent);
+        room = taken-room (does .takes);
+        inside = taken-inside (does .takes) (pre .ready .inside);
+        space = omega (arith, pre .ready .space, does .filled);
+        numbers = omega (arith, pre .ready .numbers, does .lines, taken-onward (does .takes) (pre .some));
       };
     };
-    onward = taken-onward takes (pre .some);
+    onward = taken-onward (does .takes) (pre .some);
   }
 
   -- and one that takes a line, which is answered.
-  pub turn-line : {t u : Tables} {out₁ : List ℕ} {r : Progress} → taken .whole ≡ true → Settled t (begun after (further p taken) ∷ []) out (further p taken) u out₁ r
+  pub turn-line : {t u : Tables} {out₁ : List ℕ} {r : Progress} → next .whole ≡ true → Settled t (begun after (next .progress) ∷ []) out (next .progress) u out₁ r
       → TurnDoes t chunk held out p u after out₁ r
   turn-line {r = r} met settled =
-      let onward : p .at < taken .at = taken-onward takes (pre .some) in
-      let place : r .at ≡ taken .at = settled .place in
-      let inside : taken .at ≤ length chunk = taken-inside takes (pre .ready .inside) in
-      let counted : r .lines ≡ p .lines + 1 = settled .answered .counted in
+      let onward : p .at < next .progress .at = taken-onward (does .takes) (pre .some) in
+      let place : r .at ≡ next .progress .at = settled .place in
+      let inside : next .progress .at ≤ length chunk = taken-inside (does .takes) (pre .ready .inside) in
+      let counted : r .lines ≡ p .lines + 1 = settled .answered .counted ∙ ap (λ n. n + 1) (does .lines) in
       record {
         passed = record {
-          lines = begun after (further p taken) ∷ [];
-          passes = rw (settled .none, place) (takes-line (pre .ready .room) takes met);
-          answered = answered-both (answered-none p (further p taken) (pre .ready .space) refl refl) (settled .answered);
+          lines = begun after (next .progress) ∷ [];
+          passes = rw (settled .none, place) (takes-line (pre .ready .room) (does .takes) met);
+          answered = answered-both none-answered (settled .answered);
           ready = record {
-            lent = taken-lent takes (pre .ready .lent);
+            lent = taken-lent (does .takes) (pre .ready .lent);
             room = omega (arith, settled .none);
             inside = omega arith;
             space = settled .answered .space;

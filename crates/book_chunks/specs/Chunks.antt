@@ -4,13 +4,10 @@ use mathlib.Core.List.{List, _++_}
 use Prim.Native.Nat.{ℕ, suc, _+_, _-_, _≤_, _<_}
 use lib.ListN.{length, take, drop}
 use Rattle.tag_index.specs.Histories.{Tables, Feed}
+use Rattle.book_input.specs.declared.Progress.{Progress}
 use Rattle.book_input.specs.Gathering.{Passes}
+use Rattle.book_input.specs.Progress.{lastNumber}
 use Rattle.day_book.specs.LineAnswers.{Told}
-use Rattle.book_chunks.specs.declared.Progress.{Progress}
-
--- The largest number of a line; no run comes so far.
-abbrev pub lastNumber : ℕ
-lastNumber = 18446744073709551615
 
 -- The line begun that is held, and what of the chunk is to be read.
 abbrev pub begun : List ℕ → Progress → List ℕ

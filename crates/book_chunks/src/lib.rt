@@ -3,15 +3,7 @@ ghost use mathlib.Core.List.{[], _∷_};
 ghost use Rattle.book_input.specs.Lines.{begunBefore};
 ghost use Rattle.day_book.specs.LineAnswers.{tables};
 ghost use Rattle.book_chunks.specs.Chunks.{begun, Ready, TurnReady, WithRoom, Settled, TurnDoes, ChunkDoes};
-
-// How far the day book has come: the lines answered, the bytes held of the line that is being read, the place in the chunk, and the bytes of answers in
-// `out`.
-pub struct Progress {
-    pub lines: u64,
-    pub held: usize,
-    pub at: usize,
-    pub filled: usize,
-}
+use book_input::Progress;
 
 // The line that is held is answered under the next number, behind the answers before.
 fn answer_held(
@@ -36,12 +28,7 @@ fn answer_held(
         number,
         &mut out[filled..],
     );
-    Progress {
-        lines: number,
-        held: 0,
-        at: progress.at,
-        filled: filled + more,
-    }
+    book_input::line_answered(progress, filled + more)
 }
 
 // One turn: a line whose newline is met is answered, and the beginning of another is held.
@@ -57,17 +44,11 @@ fn answer_next(
     requires { ⌜ TurnReady (now chunk) (now held) (now out) progress ⌝ }
     ensures { λ r. ⌜ TurnDoes (tables (now (index .entry)) (now (keys .entry)) (now (used .entry))) (now (chunk .entry)) (now (held .entry)) (now (out .entry)) progress (tables (now (index .exit)) (now (keys .exit)) (now (used .exit))) (now (held .exit)) (now (out .exit)) r ⌝ }
 {
-    let taken = book_input::take_line(chunk, progress.at, held, progress.held);
-    let further = Progress {
-        lines: progress.lines,
-        held: taken.length,
-        at: taken.at,
-        filled: progress.filled,
-    };
-    if taken.whole {
-        return answer_held(index, keys, used, held, out, further);
+    let next = book_input::take_next(chunk, held, progress);
+    if next.whole {
+        return answer_held(index, keys, used, held, out, next.progress);
     }
-    further
+    next.progress
 }
 
 // Line after line, until the chunk is at its end or `out` has no room for one more answer.

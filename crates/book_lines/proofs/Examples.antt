@@ -6,21 +6,11 @@ use Prim.Native.Char.{code}
 use Prim.Native.String.{String, [] as nothing, _∷_ as _then_}
 use lib.ListN.{replicate}
 use Rattle.tag_code.specs.TagCode.{fieldsFit, codeOf, packed, unpacked}
+use Rattle.book_tags.specs.Tags.{digitOf, numberAfter, decimalTag, hexadecimalTag, tagOf, recordOf}
 use Rattle.book_lines.specs.declared.Said.{Said}
 use Rattle.book_lines.specs.declared.Said.the-variants as said
 use Rattle.book_lines.specs.Fields.{cutAtTabs}
-use Rattle.book_lines.specs.Lines.{
-  digitOf,
-  numberAfter,
-  decimalTag,
-  hexadecimalTag,
-  tagOf,
-  recordOf,
-  sameBytes,
-  twoFields,
-  threeFields,
-  meaning,
-}
+use Rattle.book_lines.specs.Lines.{sameBytes, twoFields, threeFields, meaning}
 
 -- The bytes of a text of ASCII characters.
 abbrev pub bytesOf : String → List ℕ

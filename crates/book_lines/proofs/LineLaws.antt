@@ -9,6 +9,7 @@ use lib.Dec.{eqb, ltb}
 use lib.ListN.{length, take, drop, length-take}
 use lib.Seq.{take-all}
 use borrow.Author.Tests.{le-leb, lt-leb, ltb-true, ltb-false}
+use Rattle.book_tags.specs.Tags.{tagOf, recordOf}
 use Rattle.book_lines.specs.declared.Said.the-variants as said
 use Rattle.book_lines.specs.Fields.{tab, inFront, cutAtTabs, fieldLength, FieldEnd}
 use Rattle.book_lines.specs.Lines.{
@@ -17,8 +18,6 @@ use Rattle.book_lines.specs.Lines.{
   offWord,
   findWord,
   listWord,
-  tagOf,
-  recordOf,
   onLine,
   offLine,
   findLine,

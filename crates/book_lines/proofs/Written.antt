@@ -10,25 +10,22 @@ use lib.ListN.{length, length-append}
 use borrow.Author.Tests.{lt-ltb, ltb-true, ltb-false, ne-eqb}
 use Rattle.tag_code.specs.TagCode.{bitsOf, unpacked}
 use Rattle.tag_code.proofs.Codes.{unpack-accepts}
+use Rattle.book_tags.specs.declared.digits.Number.{Number}
+use Rattle.book_tags.specs.declared.digits.Number.the-variants as number
+use Rattle.book_tags.specs.declared.Tag.{Tag}
+use Rattle.book_tags.specs.declared.Tag.the-variants as tag
+use Rattle.book_tags.specs.Tags.{digitOf, numberAfter, numberOf, hexadecimalTag, tagOf, recordOf}
+use Rattle.book_tags.proofs.NumberLaws.{digit-decimal, digit-letter}
+use Rattle.book_tags.proofs.TagLaws.{hexadecimal-key, tag-hexadecimal, record-number}
 use Rattle.book_lines.specs.declared.Said.{Said}
 use Rattle.book_lines.specs.declared.Said.the-variants as said
-use Rattle.book_lines.specs.declared.digits.Number.{Number}
-use Rattle.book_lines.specs.declared.digits.Number.the-variants as number
-use Rattle.book_lines.specs.declared.tags.Tag.{Tag}
-use Rattle.book_lines.specs.declared.tags.Tag.the-variants as tag
 use Rattle.book_lines.specs.Fields.{tab, cutAtTabs}
 use Rattle.book_lines.specs.Lines.{
-  digitOf,
-  numberAfter,
-  numberOf,
   sameBytes,
   onWord,
   offWord,
   findWord,
   listWord,
-  hexadecimalTag,
-  tagOf,
-  recordOf,
   twoFields,
   onLine,
   offLine,
@@ -37,8 +34,6 @@ use Rattle.book_lines.specs.Lines.{
   fieldsSay,
   meaning,
 }
-use Rattle.book_lines.proofs.NumberLaws.{digit-decimal, digit-letter}
-use Rattle.book_lines.proofs.TagLaws.{hexadecimal-key, tag-hexadecimal, record-number}
 use Rattle.book_lines.proofs.LineLaws.{short-says, says-off, says-find, says-on, says-list}
 
 -- The byte that writes a digit: `0` to `9`, `a` to `f`.

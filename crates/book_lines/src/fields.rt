@@ -1,7 +1,5 @@
 // The fields of a line, parted by one tab.
 ghost use mathlib.Core.Path.{_≡_};
-ghost use Prim.Native.Nat.{_≤_};
-ghost use lib.ListN.{length, take, drop};
 ghost use Rattle.book_lines.specs.Lines.{sameBytes};
 ghost use Rattle.book_lines.specs.Fields.{FieldEnd};
 
@@ -34,20 +32,4 @@ pub fn same_bytes(field: &[u8], word: &[u8]) -> bool
         i += 1;
     }
     true
-}
-
-// The first bytes, so many.
-pub fn first_bytes(bytes: &[u8], count: usize) -> &[u8]
-    requires { ⌜ count ≤ length (now bytes) ⌝ }
-    ensures { λ r. ⌜ now r ≡ take count (now (bytes .entry)) ⌝ }
-{
-    &bytes[..count]
-}
-
-// The bytes after the first ones.
-pub fn bytes_after(bytes: &[u8], count: usize) -> &[u8]
-    requires { ⌜ count ≤ length (now bytes) ⌝ }
-    ensures { λ r. ⌜ now r ≡ drop count (now (bytes .entry)) ⌝ }
-{
-    &bytes[count..]
 }

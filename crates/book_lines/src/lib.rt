@@ -1,12 +1,13 @@
 // What a line of the day book says (01, "Day-book program").
-mod digits;
 mod fields;
-mod tags;
 
 ghost use mathlib.Core.Path.{_≡_};
-ghost use Rattle.book_lines.specs.Lines.{meaning, twoFields, threeFields, onLine, offLine, findLine, listLine, recordAtMost};
-use digits::Number;
-use tags::Tag;
+ghost use Rattle.book_tags.specs.Tags.{recordAtMost};
+ghost use Rattle.book_lines.specs.Lines.{meaning, twoFields, threeFields, onLine, offLine, findLine, listLine};
+use book_tags::Tag;
+use book_tags::digits::Number;
+use book_tags::parts::bytes_after;
+use book_tags::parts::first_bytes;
 
 // What a line says: a call with its arguments, or why there is none (10: bad line; 11: out of range).
 pub enum Said {
@@ -82,10 +83,10 @@ fn two_fields(verb: &[u8], second: &[u8]) -> Said
     ensures { λ r. ⌜ r ≡ twoFields (now (verb .entry)) (now (second .entry)) ⌝ }
 {
     if fields::same_bytes(verb, b"off") {
-        return off_line(tags::read_tag(second));
+        return off_line(book_tags::read_tag(second));
     }
     if fields::same_bytes(verb, b"find") {
-        return find_line(tags::read_tag(second));
+        return find_line(book_tags::read_tag(second));
     }
     Said::Bad
 }
@@ -95,10 +96,10 @@ fn three_fields(verb: &[u8], second: &[u8], third: &[u8]) -> Said
     ensures { λ r. ⌜ r ≡ threeFields (now (verb .entry)) (now (second .entry)) (now (third .entry)) ⌝ }
 {
     if fields::same_bytes(verb, b"on") {
-        return on_line(tags::read_tag(second), tags::read_record(third));
+        return on_line(book_tags::read_tag(second), book_tags::read_record(third));
     }
     if fields::same_bytes(verb, b"list") {
-        return list_line(tags::read_tag(second), tags::read_tag(third));
+        return list_line(book_tags::read_tag(second), book_tags::read_tag(third));
     }
     Said::Bad
 }
@@ -114,14 +115,14 @@ pub fn read_line(line: &[u8]) -> Said
     if end == line.len() {
         return Said::Bad;
     }
-    let verb = fields::first_bytes(line, end);
-    let rest = fields::bytes_after(line, end + 1);
+    let verb = first_bytes(line, end);
+    let rest = bytes_after(line, end + 1);
     let middle = fields::field_end(rest);
     if middle == rest.len() {
         return two_fields(verb, rest);
     }
-    let second = fields::first_bytes(rest, middle);
-    let third = fields::bytes_after(rest, middle + 1);
+    let second = first_bytes(rest, middle);
+    let third = bytes_after(rest, middle + 1);
     let last = fields::field_end(third);
     if last == third.len() {
         return three_fields(verb, second, third);

@@ -6,12 +6,12 @@ use Prim.Native.Nat.{ℕ, suc, _+_, _-_, _≤_, _<_}
 use native.Mathlib.Omega.{arith}
 use lib.ListN.{length, length-append, drop-of-length-le}
 use Rattle.tag_index.specs.Histories.{Tables, Feed}
+use Rattle.book_input.specs.declared.Progress.{Progress}
 use Rattle.book_input.specs.Lines.{linesMet, leftOpen}
 use Rattle.book_input.specs.Gathering.{Passes}
 use Rattle.book_input.proofs.GatheredLines.{passes-none, passes-both}
 use Rattle.day_book.specs.LineAnswers.{Told, end}
 use Rattle.day_book.proofs.ToldLines.{told-both}
-use Rattle.book_chunks.specs.declared.Progress.{Progress}
 use Rattle.book_chunks.specs.Chunks.{begun, unread, Ready, ChunkDoes}
 use Rattle.book_chunks.proofs.EveryInput.{written}
 use Rattle.book_output.specs.declared.Reading.{Reading}

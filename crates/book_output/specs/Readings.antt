@@ -7,7 +7,7 @@ use lib.ListN.{length, take}
 use Rattle.tag_index.specs.Histories.{Tables, Feed}
 use Rattle.book_input.specs.Lines.{begunBefore, linesMet, leftOpen}
 use Rattle.day_book.specs.LineAnswers.{Told}
-use Rattle.book_chunks.specs.Chunks.{lastNumber}
+use Rattle.book_input.specs.Progress.{lastNumber}
 use Rattle.book_output.specs.declared.Reading.{Reading}
 
 -- 81 bytes are lent for a line, and at most these are held; the buffer has room for one answer at least.

@@ -1,7 +1,7 @@
 // What a read gave is answered, and the answers are written to standard output.
 ghost use Rattle.day_book.specs.LineAnswers.{tables};
 ghost use Rattle.book_output.specs.Readings.{PiecesReady, PiecesDo, EndReady, EndDoes, ReadDoes};
-use book_chunks::Progress;
+use book_input::Progress;
 use libc::STDOUT_FILENO;
 
 // How far the day book has come between two reads: the lines answered, the bytes held of the line that is being read, and whether it goes on.

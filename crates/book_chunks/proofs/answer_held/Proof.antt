@@ -27,8 +27,11 @@ part-answer-line-end c = search needs
 answer-line-requires : tie.Need-answer-line-requires
 answer-line-requires c κs = search needs
 
-add-t20 : tie.Need-add-t20
-add-t20 c = search needs
+add-line-answered : tie.Need-add-line-answered
+add-line-answered c = search needs
+
+line-answered-requires : tie.Need-line-answered-requires
+line-answered-requires c κs = search needs
 
 same-length : tie.Need-same-length
 same-length c = search needs
@@ -44,8 +47,8 @@ same-length-4 c = search needs
 
 returns : tie.Need-returns
 returns c =
-    let called = c .before .before .before .before .before .before .before .before in
-    held-settled _ _ _ _ _ _ _ (called .before .before .before .before .before .before .before .before .before .before .before .before .pre) (called .answer-line .ensures)
+    let called = c .before .before .before .before .before .before .before .before .before in
+    held-settled _ _ _ _ _ _ _ _ (called .before .before .before .before .before .before .before .before .before .before .before .before .pre) (called .answer-line .ensures) (c .line-answered .ensures)
 
 pub answer-held-spec : {M : Type 1} → statement M
 answer-held-spec =
@@ -57,7 +60,8 @@ answer-held-spec =
     part-answer-line-start
     part-answer-line-end
     answer-line-requires
-    add-t20
+    add-line-answered
+    line-answered-requires
     same-length
     same-length-2
     same-length-3
