@@ -10,6 +10,7 @@ mod library;
 mod measure;
 mod report;
 mod rounds;
+mod turns;
 
 use herd::Tags;
 use report::Report;

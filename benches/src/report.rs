@@ -5,6 +5,7 @@ use crate::empty::{formats, Formats};
 use crate::herd::{Herd, Tags, WIDTH};
 use crate::measure::{measure, Measures, Read, LISTED};
 use crate::rounds::{Beside, Median};
+use crate::turns::{in_turn, HERDS};
 use std::time::Duration;
 
 const METHOD: &str = "\
@@ -20,7 +21,8 @@ own, on tables with one free record: a key is put on and taken off again, each c
 the same tables. Checks and what is compared with them come in random order. Inserts and removes run 16 in a row. A
 round in which an on finds no page (7) is left out. Format has rounds of its own, for a sixth of the time, on tables of
 the same size, in turn with zeros over the same bytes; it is the whole call, which has no check. The check of the
-tables that it leaves, as many bytes with one entry, is measured there too.";
+tables that it leaves, as many bytes with one entry, is measured there too. The check of eight herds in turn has rounds
+of its own as well, as long: the others check one herd again and again, and the processor learns its dummies by heart.";
 
 /// Prints what was done, with pages of E entries.
 pub fn print_method(entries: usize) {
@@ -31,6 +33,7 @@ pub fn print_method(entries: usize) {
 pub struct Report {
     tags: Tags,
     herds: Vec<Measures>,
+    in_turn: Vec<Median>,
     changed: Vec<[Beside; 2]>,
     formatted: Vec<Formats>,
 }
@@ -45,11 +48,14 @@ impl Report {
         };
         let read = |records| measure(herd(records), each);
         let herds: Vec<Measures> = records.iter().map(read).collect();
+        let turn = |records| in_turn(herd(records), each / 6);
+        let in_turn = records.iter().map(turn).collect();
         let change = |records| changes(herd(records), each);
         let changed = records.iter().map(change).collect();
         let format = |herd: &Measures| formats(&herd.size, each / 6);
         Report {
             tags,
+            in_turn,
             changed,
             formatted: herds.iter().map(format).collect(),
             herds,
@@ -62,6 +68,8 @@ impl Report {
         print_sizes(&self.herds);
         println!();
         print_check(&self.herds);
+        let name = format!("check of {HERDS} herds in turn, us");
+        row(&name, &self.in_turn, |&median| micros(median));
         let reads = |what| self.herds.iter().map(|herd| herd.read(what)).collect();
         print_call("held key", "find", "get", reads(Read::Held));
         print_call("other key", "find", "get", reads(Read::Other));
