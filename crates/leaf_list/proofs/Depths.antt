@@ -7,6 +7,7 @@ use mathlib.Core.List.{List, [], _∷_, _++_, append-assoc}
 use Prim.Native.Nat.{ℕ, suc, _<_, _≤_, _+_, zero}
 use native.Mathlib.Omega.{arith}
 use Rattle.leaf_list.specs.Entries.{Entry, entry, depthOf, isNil, pointerOf}
+use Rattle.leaf_list.specs.Depths.{DepthsWithin}
 use Rattle.leaf_list.specs.Trie.{Trie, leaf, zero-only, one-only, fork, write, writeAll}
 use Rattle.leaf_list.proofs.Lists.{All, all-weaker, all-append}
 use Rattle.leaf_list.proofs.Tries.{lastRecord, Sized, Given, Pruned, AtLeaf, at-branching, at-leaf, leaf-or-branching}
@@ -42,10 +43,6 @@ front-deeper (fork a b) l =
     all-append (λ e. l < depthOf e) (frontOf (suc l) a) (entry (suc l) (some (lastRecord a)) ∷ frontOf (suc l) b)
     (deeper-less l (frontOf (suc l) a) (front-deeper a (suc l)))
     (omega arith, deeper-less l (frontOf (suc l) b) (front-deeper b (suc l)))
-
--- No depth is above w.
-abbrev pub DepthsWithin : ℕ → List Entry → Type 0
-DepthsWithin w = All (λ e. depthOf e ≤ w)
 
 -- The depths of a node of n bits at depth l.
 pub depthsWithin-write : (t : Trie) (n w l c : ℕ) (rest : List Entry) → Sized n t → l + n ≤ w → c ≤ w → DepthsWithin w rest → DepthsWithin w (write l t c rest)

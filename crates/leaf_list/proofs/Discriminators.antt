@@ -8,6 +8,7 @@ use native.Mathlib.Omega.{arith}
 use lib.Dec.{eqb}
 use lib.ListN.{length}
 use borrow.Author.Tests.{ne-eqb}
+use Rattle.leaf_list.specs.Depths.{DepthsWithin}
 use Rattle.leaf_list.specs.Keys.{Key, below, setBit, zeroBits, value, bits}
 use Rattle.leaf_list.specs.Entries.{Entry, entry}
 use Rattle.leaf_list.specs.Herd.{Herd}
@@ -20,7 +21,7 @@ use Rattle.leaf_list.proofs.Tries.{Sized, lastRecord, Given, sized-reac
 use Rattle.leaf_list.proofs.Places.{passFront, passed, remaining, stops-shallow, search-node}
 use Rattle.leaf_list.proofs.TrieOf.{trieOf-sized}
 use Rattle.leaf_list.proofs.HerdItems.{items-lengths}
-use Rattle.leaf_list.proofs.Depths.{DepthsWithin, depthsWithin-writeAll}
+use Rattle.leaf_list.proofs.Depths.{depthsWithin-writeAll}
 
 -- The first entry whose discriminator is above the key K, by bits; the depth 0 stands above every key.
 abbrev pub firstAbove : Key → List Entry → Key → List Entry → Place

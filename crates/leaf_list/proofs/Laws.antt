@@ -10,6 +10,7 @@ use Rattle.leaf_list.specs.Keys.{bits, firstDifference}
 use Rattle.leaf_list.specs.Entries.{Entry, entry, liveRecords, depthOf}
 use Rattle.leaf_list.specs.Herd.{Herd, Narrow, Sorted, KeysOf, lookup, add, remove, recordsOf}
 use Rattle.leaf_list.specs.LeafList.{leafList, items}
+use Rattle.leaf_list.specs.Depths.{LeafDepths}
 use Rattle.leaf_list.specs.Trie.{trieOf}
 use Rattle.leaf_list.specs.Search.{search, positions, firstExceeding, find, Place}
 use Rattle.leaf_list.specs.Insertion.{insertion, trailing, leafDepth}
@@ -21,7 +22,8 @@ use Rattle.leaf_list.proofs.HerdLaws.{narrow-add, sorted-add, lookup-ab
 use Rattle.leaf_list.proofs.HerdItems.{find-trieList, insertion-trieList, deletion-trieList, liveRecords-trieList, items-lengths}
 use Rattle.leaf_list.proofs.FoundEntry.{FoundOther, found-trieList, OtherLeaf}
 use Rattle.leaf_list.proofs.InsertionCount.{insertion-length}
-use Rattle.leaf_list.proofs.Depths.{Closed, closed-writeAll, DepthsWithin, depthsWithin-writeAll, Neighbours, neighbours-writeAll}
+use Rattle.leaf_list.proofs.Depths.{Closed, closed-writeAll, depthsWithin-writeAll, Neighbours, neighbours-writeAll}
+use Rattle.leaf_list.proofs.Unrepeated.{unrepeated-writeAll}
 use Rattle.leaf_list.proofs.Discriminators.{search-trieList}
 use Rattle.leaf_list.proofs.Indexed.{foundIndex, foundIndex-trieList}
 use Rattle.leaf_list.proofs.PassedEntries.{passed-trieList}
@@ -82,9 +84,14 @@ liveRecords-law w s q o = rw (twin w s q o) (liveRecords-trieList w s q o)
 pub closed-law : (w : ℕ) (s : Herd) → Narrow w s → Sorted s → Closed depthOf 0 (leafList w s)
 closed-law w s q o = rw (twin w s q o) (closed-writeAll (trieOf w (items w s)))
 
--- No depth is above w.
-pub depths-law : (w : ℕ) (s : Herd) → Narrow w s → Sorted s → DepthsWithin w (leafList w s)
-depths-law w s q o = rw (twin w s q o) (depthsWithin-writeAll w (trieOf w (items w s)) (trieOf-sized w (items w s) (items-lengths w s)))
+-- No depth is above w, and none comes again before a shallower one has come.
+pub depths-law : (w : ℕ) (s : Herd) → Narrow w s → Sorted s → LeafDepths w (leafList w s)
+depths-law w s q o =
+    rw (twin w s q o)
+    (record {
+      within = depthsWithin-writeAll w (trieOf w (items w s)) (trieOf-sized w (items w s) (items-lengths w s));
+      unrepeated = unrepeated-writeAll (trieOf w (items w s));
+    })
 
 -- Depths side by side differ; a dummy is deeper than the entry before it and shallower than the next.
 pub neighbours-law : (w : ℕ) (s : Herd) → Narrow w s → Sorted s → Neighbours (leafList w s)

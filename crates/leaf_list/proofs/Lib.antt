@@ -15,6 +15,7 @@ pub mod HerdItems
 pub mod FoundEntry
 pub mod InsertionCount
 pub mod Depths
+pub mod Unrepeated
 pub mod InsertionPlace
 pub mod Discriminators
 pub mod Positions

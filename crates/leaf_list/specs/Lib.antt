@@ -2,6 +2,7 @@ pub mod Keys
 pub mod Entries
 pub mod Herd
 pub mod LeafList
+pub mod Depths
 pub mod Trie
 pub mod Search
 pub mod Insertion

@@ -7,6 +7,7 @@ pub mod WalkPlaces
 pub mod RowMaps
 pub mod PagePlaces
 pub mod TreeLaws
+pub mod UnrepeatedRows
 pub mod FindingLaws
 pub mod Replacing
 pub mod Growing
