@@ -9,7 +9,8 @@ use lib.Dec.{ltb}
 use lib.Pow.{pow-pos}
 use lib.ListN.{length, getD}
 use borrow.Author.Tests.{ltb-true, ltb-false, eqb-true}
-use Rattle.leaf_list.specs.Entries.{depthOf, liveRecords}
+use Rattle.leaf_list.specs.Entries.{liveRecords}
+use Rattle.leaf_list.specs.Depths.{LeafDepths}
 use Rattle.leaf_list.specs.Herd.{Narrow, Sorted, KeysOf, recordsOf}
 use Rattle.leaf_list.specs.Register.{keyAt, inUse, herdOf}
 use Rattle.leaf_list.proofs.Check.{herdOf-narrow}
@@ -17,7 +18,6 @@ use Rattle.leaf_list.proofs.FittingHerds.{AllInUse}
 use Rattle.leaf_list.proofs.Laws.{depths-law, liveRecords-law}
 use Rattle.leaf_list.proofs.RegisterChange.{herdOf-sorted}
 use Rattle.leaf_list.proofs.RegisterHerd.{herdOf-is, herdOf-keysOf, length-herdFrom}
-use Rattle.page_tree.specs.Rows.{All}
 use Rattle.page_tree.specs.Tree.{Tree, depth, leavesOf, SoundTree, RootRule, pagesOf as treePages}
 use Rattle.index_table.specs.Layout.{layoutOf, pageStart, Within}
 use Rattle.index_table.specs.Header.{widthOf, entriesOf, pagesOf, rootOf, heldOf}
@@ -88,9 +88,9 @@ module _ {index keys used : List ℕ} (s : Sound index keys used) where
   pub header-long : 16 ≤ length index
   header-long = omega (arith, s .lengths .table)
 
-  -- No depth on level 0 is above w.
-  pub leaf-depths : All (λ e. depthOf e ≤ w) (leafEntries index)
-  leaf-depths = subst (All (λ e. depthOf e ≤ w)) (sym (s .leaves)) (depths-law w (herdOf keys used) herd-narrow herd-sorted)
+  -- The depths on level 0 are those of a leaf list.
+  pub leaf-depths : LeafDepths w (leafEntries index)
+  leaf-depths = subst (LeafDepths w) (sym (s .leaves)) (depths-law w (herdOf keys used) herd-narrow herd-sorted)
 
   -- ---- the tree of pages
 

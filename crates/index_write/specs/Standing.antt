@@ -3,7 +3,7 @@ use mathlib.Core.Path.{_≡_}
 use mathlib.Core.List.{List}
 use Prim.Native.Nat.{ℕ, _+_, _≤_}
 use lib.ListN.{length, take}
-use Rattle.leaf_list.specs.Entries.{depthOf}
+use Rattle.leaf_list.specs.Depths.{LeafDepths}
 use Rattle.page_tree.specs.Rows.{All}
 use Rattle.page_tree.specs.Tree.{leavesOf}
 use Rattle.index_table.specs.Layout.{Layout, layoutOf, Ref, pageStart, pageBytes}
@@ -16,7 +16,7 @@ pub record TreeTable (b : List ℕ) (e P level root w : ℕ) : Type 0 where
   pub pages-high : P ≤ 65534
   pub table : length b ≡ pageStart (layoutOf e) P
   pub pages : SoundPages (layoutOf e) P b level root
-  pub depths : All (λ x. depthOf x ≤ w) (leavesOf (treeAt 65535 (pagesAt (layoutOf e) b) level root))
+  pub depths : LeafDepths w (leavesOf (treeAt 65535 (pagesAt (layoutOf e) b) level root))
   pub width : w ≤ 64
 
 -- The pages that f counts are in use, and f counts none twice.

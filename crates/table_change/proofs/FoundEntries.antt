@@ -89,7 +89,7 @@ module _ {index keys used : List ℕ} (s : Sound index keys used) (key : ℕ) (n
   es = leafList w (herdOf keys used)
 
   low : All (λ e. depthOf e ≤ w) es
-  low = depths-law w (herdOf keys used) (herd-narrow s) (herd-sorted s)
+  low = depths-law w (herdOf keys used) (herd-narrow s) (herd-sorted s) .within
 
   split : search [] (positions 0 (bits w key)) es ≡ (reverseAux (take (foundIndex (positions 0 (bits w key)) es) es) [], drop (foundIndex (positions 0 (bits w key)) es) es)
   split = search-index es [] (positions 0 (bits w key))

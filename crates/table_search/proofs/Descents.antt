@@ -11,16 +11,19 @@ use Rattle.page_tree.specs.Rows.{All, Closed, flats, lastDepth}
 use Rattle.page_tree.specs.Tree.{Node, depth, leaves}
 use Rattle.page_tree.specs.Walk.{walk}
 use Rattle.page_tree.specs.Finding.{findBelow, nowhere}
+use Rattle.leaf_list.specs.Depths.{Unrepeated, LeafDepths}
 use Rattle.leaf_list.proofs.Lists.{all-at}
+use Rattle.leaf_list.proofs.Unrepeated.{unrepeated-left, unrepeated-right}
 use Rattle.page_tree.proofs.RowMaps.{lastDepth-map, positionsAfter-map, passes-map}
 use Rattle.page_tree.proofs.ListLaws.{all-left, all-right}
+use Rattle.page_tree.proofs.UnrepeatedRows.{unrepeated-map, unrepeated-page}
 use Rattle.page_tree.proofs.WalkPlaces.{positionsAfter, Stops, find-at}
 use Rattle.index_table.specs.Layout.{Ref, Within, layoutOf, pageBytes, refAt}
 use Rattle.index_table.specs.Pages.{pagesAt, nodeAt, recordOf}
 use Rattle.index_table.specs.Soundness.{SoundBelow}
 use Rattle.index_table.specs.declared.layout.PageNo.{PageNo}
 use Rattle.index_table.proofs.PageBytes.{within-table}
-use Rattle.index_table.proofs.SoundNodes.{sound-depths}
+use Rattle.index_table.proofs.SoundNodes.{sound-depths, sound-nodes}
 use Rattle.table_search.specs.declared.Spot.{Spot}
 use Rattle.table_search.specs.declared.Leaf.{Leaf}
 use Rattle.table_search.specs.Places.{leftFrom, depthOf, SeekPre, Stopped, DescendPre, Way, Descended}
@@ -44,6 +47,16 @@ pub leaves-at : (Q : Entry → Type 0) (n : ℕ) (f : Ref → Node n) (row : Lis
 leaves-at Q n f [] i h a = absurd (omega arith)
 leaves-at Q n f (x ∷ row) zero h a = all-left Q (leaves n (f x)) (flats (leaves n) (map f row)) a
 leaves-at Q n f (x ∷ row) (suc i) h a = leaves-at Q n f row i (omega arith) (all-right Q (leaves n (f x)) (flats (leaves n) (map f row)) a)
+
+-- So do their depths.
+pub depths-at : (w n : ℕ) (f : Ref → Node n) (row : List Ref) (i : ℕ) → i < length row → LeafDepths w (flats (leaves n) (map f row)) → LeafDepths w (leaves n (f (getD row i (0, 0))))
+depths-at w n f row i h a =
+    record { within = leaves-at (λ e. entryDepth e ≤ w) n f row i h (a .within); unrepeated = unrepeated-at row i h (a .unrepeated) }
+  where
+    unrepeated-at : (row : List Ref) (i : ℕ) → i < length row → Unrepeated entryDepth (flats (leaves n) (map f row)) → Unrepeated entryDepth (leaves n (f (getD row i (0, 0))))
+    unrepeated-at [] i h u = absurd (omega arith)
+    unrepeated-at (x ∷ row) zero h u = unrepeated-left entryDepth (leaves n (f x)) (flats (leaves n) (map f row)) u
+    unrepeated-at (x ∷ row) (suc i) h u = unrepeated-at row i (omega arith) (unrepeated-right entryDepth (leaves n (f x)) (flats (leaves n) (map f row)) u)
 
 depths-low : (w n : ℕ) (f : Ref → Node n) (row : List Ref) → All (λ x. depth n (f x) ≡ x .0) row → All (λ e. entryDepth e ≤ w) (flats (leaves n) (map f row)) → All (λ x. x .0 ≤ w) row
 depths-low w n f [] h a = tt
@@ -77,7 +90,7 @@ module _ {b : List ℕ} {e P n page w key position : ℕ} (pre : DescendPre b e 
   same : All (λ x. depth n (node x) ≡ x .0) row
   same = sound-depths 65535 (layoutOf e) P b n row (pre .sound .2)
 
-  low : All (λ x. entryDepth x ≤ w) (flats (leaves n) (map node row))
+  low : LeafDepths w (flats (leaves n) (map node row))
   unfolding nodeAt
   low = pre .depths
 
@@ -91,8 +104,11 @@ module _ {b : List ℕ} {e P n page w key position : ℕ} (pre : DescendPre b e 
         within = descend-within;
         some = pre .sound .0 .some;
         few = pre .sound .0 .few;
-        depths = depths-low w n node row same low;
+        depths = depths-low w n node row same (low .within);
         inner = λ i h. omega (arith, closed-inner (pre .closing) row i (pre .sound .1) h);
+        unrepeated =
+            unrepeated-map depthOf (depth n) node row same
+            (unrepeated-page e n (map node row) (sound-nodes 65535 (layoutOf e) P b n row (pre .sound .2)) (low .unrepeated));
         width = pre .width;
         narrow = pre .narrow;
         low = omega (arith, pre .before);
@@ -174,7 +190,7 @@ module _ {b : List ℕ} {e P page w key position τ : ℕ} (n : ℕ) (pre : Desc
         sound = all-at (SoundBelow (layoutOf e) P (suc n) b) (pagesAt (layoutOf e) b page) (s .at) (0, 0) (stop .inside) (pre .sound .2);
         before = stop-before pre s stop;
         table = pre .table;
-        depths = leaves-at (λ x. entryDepth x ≤ w) (suc n) (nodeAt 65535 (suc n) (pagesAt (layoutOf e) b)) (pagesAt (layoutOf e) b page) (s .at) (stop .inside) (pre .depths);
+        depths = depths-at w (suc n) (nodeAt 65535 (suc n) (pagesAt (layoutOf e) b)) (pagesAt (layoutOf e) b page) (s .at) (stop .inside) (pre .depths);
         width = pre .width;
         narrow = pre .narrow;
         high = stop .high;

@@ -1,8 +1,8 @@
 -- The search of one page's row, entry by entry. Assumes nothing.
 use mathlib.Core.Path.{_≡_, refl, sym, ap, subst, _∙_}
-use mathlib.Core.Logic.{inl, inr}
+use mathlib.Core.Logic.{_⊎_}
 use mathlib.Core.List.{List, [], _∷_, _++_}
-use Prim.Native.Nat.{ℕ, _+_, _≤_, _<_}
+use Prim.Native.Nat.{ℕ, suc, _+_, _-_, _≤_, _<_}
 use native.Mathlib.Omega.{arith}
 use native.Mathlib.Numerals.{add-one}
 use lib.ListN.{length, getD, take}
@@ -15,7 +15,7 @@ use Rattle.page_tree.proofs.WalkPlaces.{Passes, positionsAfter}
 use Rattle.index_table.specs.Layout.{Ref, Layout, layoutOf, refAt, pageBytes}
 use Rattle.index_table.specs.Pages.{pagesAt}
 use Rattle.index_table.proofs.PageRows.{length-refs, getD-refs}
-use Rattle.table_search.specs.Places.{later, leftFrom, NextPosition, Passed, depthOf, SeekPre, Stopped}
+use Rattle.table_search.specs.Places.{later, leftFrom, depthBefore, NextPosition, Passed, depthOf, SeekPre, Stopped}
 
 -- One entry more is passed.
 passes-snoc : (bs : List ℕ) (b : ℕ) (bs′ : List ℕ) (xs : List Ref) (y : Ref) → Passes depthOf bs xs → positionsAfter depthOf bs xs ≡ b ∷ bs′ → b ≤ y .0
@@ -30,21 +30,23 @@ last-snoc : (τ : ℕ) (xs : List Ref) (y : Ref) → lastDepth depthOf τ (xs ++
 last-snoc τ [] y = refl
 last-snoc τ (x ∷ xs) y = last-snoc (x .0) xs y
 
--- The search before entry i: what was passed, the next position b and the depth t before.
-pub record Seeking (w key b₀ τ : ℕ) (row : List Ref) (b t i : ℕ) : Type 0 where
+depth-before : (τ : ℕ) (row : List Ref) (j : ℕ) → j < length row → depthBefore τ row (suc j) ≡ getD row j (0, 0) .0
+depth-before τ row j h = ap (lastDepth depthOf τ) (take-suc row j (0, 0) h) ∙ last-snoc τ (take j row) (getD row j (0, 0))
+
+-- The search before entry i: what was passed, and the next position b.
+pub record Seeking (w key b₀ : ℕ) (row : List Ref) (b i : ℕ) : Type 0 where
   pub inside : i < length row
   pub passes : Passes depthOf (leftFrom w key b₀) (take i row)
   pub left : positionsAfter depthOf (leftFrom w key b₀) (take i row) ≡ leftFrom w key b
-  pub trail : lastDepth depthOf τ (take i row) ≡ t
   pub rise : b₀ ≤ b
   pub high : b ≤ w + 1
 
-pub seeking-start : (w key b τ : ℕ) (row : List Ref) → 1 ≤ length row → b ≤ w + 1 → Seeking w key b τ row b τ 0
-seeking-start w key b τ row h g = record { inside = omega arith; passes = tt; left = refl; trail = refl; rise = omega arith; high = g }
+pub seeking-start : (w key b : ℕ) (row : List Ref) → 1 ≤ length row → b ≤ w + 1 → Seeking w key b row b 0
+seeking-start w key b row h g = record { inside = omega arith; passes = tt; left = refl; rise = omega arith; high = g }
 
-pub seeking-more : (w key b₀ τ : ℕ) (row : List Ref) (b t i d b′ : ℕ) → Seeking w key b₀ τ row b t i → i + 1 < length row → d ≡ getD row i (0, 0) .0 → b ≤ d
-    → Passed w key b d b′ → Seeking w key b₀ τ row b′ d (i + 1)
-seeking-more w key b₀ τ row b t i d b′ s h e l p =
+pub seeking-more : (w key b₀ : ℕ) (row : List Ref) (b i d b′ : ℕ) → Seeking w key b₀ row b i → i + 1 < length row → d ≡ getD row i (0, 0) .0 → b ≤ d
+    → Passed w key b d b′ → Seeking w key b₀ row b′ (i + 1)
+seeking-more w key b₀ row b i d b′ s h e l p =
     let y : Ref = getD row i (0, 0) in
     let m : take (i + 1) row ≡ take i row ++ (y ∷ []) = ap (λ (n : ℕ). take n row) (add-one i) ∙ take-suc row i (0, 0) (s .inside) in
     let r = passes-snoc (leftFrom w key b₀) b (later w key b) (take i row) y (s .passes) (s .left) (subst (λ (n : ℕ). b ≤ n) e l) in
@@ -52,20 +54,23 @@ seeking-more w key b₀ τ row b t i d b′ s h e l p =
       inside = h;
       passes = rw m (r .0);
       left = rw m (r .1 ∙ subst (λ (x : ℕ). rest x b (later w key b) ≡ leftFrom w key b′) e (p .left));
-      trail = rw m (last-snoc τ (take i row) y ∙ sym e);
       rise = omega (arith, s .rise, p .rise);
       high = p .high;
     }
 
-pub seeking-stop : (w key b₀ τ : ℕ) (row : List Ref) (b t i d : ℕ) → Seeking w key b₀ τ row b t i → d ≡ getD row i (0, 0) .0 → d < b
-    → Stopped w key b₀ τ row (record { at = i; position = b; trail = t })
-seeking-stop w key b₀ τ row b t i d s e h =
-    record { inside = s .inside; passes = s .passes; left = s .left; trail = s .trail; rise = s .rise; high = s .high; stops = inr (omega arith) }
-
-pub seeking-end : (w key b₀ τ : ℕ) (row : List Ref) (b t i n : ℕ) → Seeking w key b₀ τ row b t i → n ≡ length row → n ≤ i + 1
-    → Stopped w key b₀ τ row (record { at = i; position = b; trail = t })
-seeking-end w key b₀ τ row b t i n s e h =
-    record { inside = s .inside; passes = s .passes; left = s .left; trail = s .trail; rise = s .rise; high = s .high; stops = inl (omega (arith, s .inside)) }
+-- It stops there, where the entry is the last or shallower than the position.
+pub seeking-stop : (w key b₀ τ : ℕ) (row : List Ref) (b i p t : ℕ) → Seeking w key b₀ row b i → p ≡ b → t ≡ depthBefore τ row i
+    → (suc i ≡ length row) ⊎ (getD row i (0, 0) .0 < b) → Stopped w key b₀ τ row (record { at = i; position = p; trail = t })
+seeking-stop w key b₀ τ row b i p t s e f h =
+    record {
+      inside = s .inside;
+      passes = s .passes;
+      left = s .left ∙ ap (leftFrom w key) (sym e);
+      trail = sym f;
+      rise = omega (arith, s .rise, e);
+      high = omega (arith, s .high, e);
+      stops = rw e h;
+    }
 
 -- What a passed entry leaves of the positions.
 pub passed-kept : (w key b d : ℕ) → (d ≡ b → ⊥) → b ≤ w + 1 → Passed w key b d b
@@ -87,3 +92,12 @@ pub depth-low : {b : List ℕ} {e page w key position : ℕ} (i d : ℕ) → See
     → d ≡ refAt (layoutOf e) (pageBytes (layoutOf e) b page) i .0 → d ≤ w
 depth-low {b} {e} {page} {w} i d pre h q =
     subst (λ (n : ℕ). n ≤ w) (sym (q ∙ ap (λ (x : Ref). x .0) (read-entry (layoutOf e) b page i h))) (all-at (λ x. x .0 ≤ w) (pagesAt (layoutOf e) b page) i (0, 0) h (pre .depths))
+
+-- The depth before an entry: that before the row, or that of the entry before it.
+pub depth-first : (τ : ℕ) (row : List Ref) (i : ℕ) → i ≡ 0 → τ ≡ depthBefore τ row i
+depth-first τ row i e = ap (depthBefore τ row) (sym e)
+
+pub depth-read : (τ : ℕ) (L : Layout) (b : List ℕ) (p i : ℕ) → (i ≡ 0 → ⊥) → i < length (pagesAt L b p) → refAt L (pageBytes L b p) (i - 1) .0 ≡ depthBefore τ (pagesAt L b p) i
+depth-read τ L b p i z h =
+    let e : suc (i - 1) ≡ i = omega arith in
+    ap (λ (x : Ref). x .0) (read-entry L b p (i - 1) (omega arith)) ∙ sym (depth-before τ (pagesAt L b p) (i - 1) (omega arith)) ∙ ap (depthBefore τ (pagesAt L b p)) e

@@ -3,13 +3,14 @@ use mathlib.Core.Path.{_≡_}
 use mathlib.Core.Bool.{cond}
 use mathlib.Core.Logic.{_⊎_}
 use mathlib.Core.List.{List, [], _∷_}
-use Prim.Native.Nat.{ℕ, zero, suc, _+_, _-_, _%_, _^_, _≤_, _<_}
+use Prim.Native.Nat.{ℕ, zero, suc, _+_, _-_, _*_, _/_, _%_, _^_, _≤_, _<_}
 use lib.Count.{leadingZeros}
-use lib.Dec.{eqb, leb, ltb}
+use lib.Dec.{eqb, leb}
 use lib.ListN.{length, getD, take, drop}
-use Rattle.leaf_list.specs.Keys.{bits}
+use Rattle.leaf_list.specs.Keys.{bits, firstDifference}
 use Rattle.leaf_list.specs.Search.{positions}
-use Rattle.leaf_list.specs.Entries.{entry, depthOf as entryDepth}
+use Rattle.leaf_list.specs.Entries.{entry}
+use Rattle.leaf_list.specs.Depths.{Unrepeated, LeafDepths}
 use Rattle.page_tree.specs.Rows.{All, lastDepth}
 use Rattle.page_tree.specs.Tree.{leaves}
 use Rattle.page_tree.specs.Walk.{rest}
@@ -43,9 +44,13 @@ ahead w key b = cond (leb b w) (2 ^ (w - b) + key % 2 ^ (w - b)) 0
 abbrev pub firstPosition : ℕ → ℕ → ℕ
 firstPosition w a = cond (eqb a 0) (w + 1) (leadingZeros 64 a + w - 63)
 
--- What an entry leaves of them, once it was passed: the first is taken off where it is the entry's own bit.
-abbrev pub aheadOf : ℕ → ℕ → ℕ
-aheadOf a own = cond (ltb (a - own) own) (a - own) a
+-- The last number before the discriminator of an entry of depth d that follows the discriminator D.
+abbrev pub lastBefore : ℕ → ℕ → ℕ → ℕ
+lastBefore w d D = D / 2 ^ (w - d) * 2 ^ (w - d) + (2 ^ (w - d) - 1)
+
+-- The first position at which two numbers of w bits differ; W + 1 where they are the same.
+abbrev pub differAt : ℕ → ℕ → ℕ → ℕ
+differAt w a D = cond (eqb a D) (w + 1) (firstDifference 0 (bits w a) (bits w D))
 
 -- The next position once an entry of depth d was passed at the position b.
 pub record Passed (w key b d r : ℕ) : Type 0 where
@@ -57,17 +62,23 @@ pub record Passed (w key b d r : ℕ) : Type 0 where
 abbrev pub depthOf : Ref → ℕ
 depthOf x = x .0
 
--- A page in use within the bytes, whose depths are at most w and, but for the last, above 0, and a position of a key.
+-- A page in use within the bytes, whose depths are at most w and, but for the last, above 0, none coming again before a shallower one has come;
+-- and a position of a key.
 pub record SeekPre (b : List ℕ) (e page w key position : ℕ) : Type 0 where
   pub within : Within (layoutOf e) b page
   pub some : 1 ≤ length (pagesAt (layoutOf e) b page)
   pub few : length (pagesAt (layoutOf e) b page) ≤ e
   pub depths : All (λ x. x .0 ≤ w) (pagesAt (layoutOf e) b page)
   pub inner : (i : ℕ) → i + 1 < length (pagesAt (layoutOf e) b page) → 0 < getD (pagesAt (layoutOf e) b page) i (0, 0) .0
+  pub unrepeated : Unrepeated depthOf (pagesAt (layoutOf e) b page)
   pub width : w ≤ 64
   pub narrow : key < 2 ^ w
   pub low : 0 < position
   pub high : position ≤ w + 1
+
+-- The depth before entry i of a row, where τ is the one before the row.
+abbrev pub depthBefore : ℕ → List Ref → ℕ → ℕ
+depthBefore τ row i = lastDepth depthOf τ (take i row)
 
 -- The place where figure 6 stops in a page's row, begun with the position b and the depth τ before: the entries before it are passed, and it is
 -- shallower than the next position or the last.
@@ -86,7 +97,7 @@ pub record DescendPre (b : List ℕ) (e P n page w key position : ℕ) : Type 0 
   pub sound : SoundBelow (layoutOf e) P (suc n) b (closing, page)
   pub before : closing < position
   pub table : pageStart (layoutOf e) P ≤ length b
-  pub depths : All (λ x. entryDepth x ≤ w) (leaves (suc n) (nodeAt 65535 (suc n) (pagesAt (layoutOf e) b) (closing, page)))
+  pub depths : LeafDepths w (leaves (suc n) (nodeAt 65535 (suc n) (pagesAt (layoutOf e) b) (closing, page)))
   pub width : w ≤ 64
   pub narrow : key < 2 ^ w
   pub high : position ≤ w + 1

@@ -1,9 +1,10 @@
 // Search in sound tables: figure 6 from the root down.
 ghost use mathlib.Core.Path.{_≡_};
-ghost use Prim.Native.Nat.{_+_, _-_, _%_, _^_, _≤_, _<_};
-ghost use Rattle.index_table.specs.Layout.{layoutOf};
+ghost use Prim.Native.Nat.{_-_, _%_, _^_, _≤_, _<_};
+ghost use lib.ListN.{length};
+ghost use Rattle.index_table.specs.Layout.{Within, layoutOf};
 ghost use Rattle.index_table.specs.Pages.{pagesAt};
-ghost use Rattle.table_search.specs.Places.{ahead, firstPosition, aheadOf, NextPosition, SeekPre, Stopped, DescendPre, Descended};
+ghost use Rattle.table_search.specs.Places.{ahead, firstPosition, lastBefore, differAt, depthBefore, NextPosition, SeekPre, Stopped, DescendPre, Descended};
 use index_table::layout::PageNo;
 use index_table::layout::child;
 use index_table::layout::count;
@@ -12,6 +13,7 @@ use index_table::layout::depth;
 use index_table::layout::pointer;
 use index_table::layout::wide;
 use leaf_list::bit;
+use leaf_list::first_difference;
 
 // A place in a page: the entry, the next position, and the depth before the entry.
 pub struct Spot {
@@ -73,51 +75,59 @@ fn bits_ahead(w: u64, key: u64, b: u64) -> u64
     first + key % first
 }
 
-// Bit d of a number of w bits, counted from its first: a page's entries share that one, and each takes one shift.
-fn entry_bit(w: u64, d: u64) -> u64
+// The last number before the discriminator of an entry of depth d that follows the discriminator disc.
+fn last_before(w: u64, disc: u64, d: u64) -> u64
     requires { ⌜ (w ≤ 64) × (0 < d) × (d ≤ w) ⌝ }
-    ensures { λ r. ⌜ r ≡ 2 ^ (w - d) ⌝ }
+    ensures { λ r. ⌜ r ≡ lastBefore w d disc ⌝ }
 {
-    bit(w, 1) >> (d - 1)
+    let behind = (bit(w, 1) - 1) >> (d - 1);
+    disc | behind
 }
 
-// The bits ahead once an entry was passed, by the bit of its depth.
-fn passed(ahead: u64, own: u64) -> u64
-    requires { ⌜ own ≤ ahead ⌝ }
-    ensures { λ r. ⌜ r ≡ aheadOf ahead own ⌝ }
+// The first position at which two numbers of w bits differ; w + 1 where they are the same.
+fn differ_at(w: u64, bits: u64, disc: u64) -> u64
+    requires { ⌜ (w ≤ 64) × (bits < 2 ^ w) × (disc < 2 ^ w) ⌝ }
+    ensures { λ r. ⌜ r ≡ differAt w bits disc ⌝ }
 {
-    let behind = ahead - own;
-    if behind < own { behind } else { ahead }
+    if bits == disc {
+        return w + 1;
+    }
+    first_difference(w, bits, disc)
 }
 
-// The entry of a page at which figure 6 stops, begun at a position and with the depth before. In the page the key's bits from that position on are
-// carried: figure 6 stops at an entry whose own bit is above them.
+// The depth before entry i of a page, where trail is the one before the page.
+fn depth_before(index: &[u8], e: u8, page: PageNo, i: usize, trail: u64) -> u64
+    requires { ⌜ Within (layoutOf e) (now index) (page .0) × (i ≤ e) × (i < length (pagesAt (layoutOf e) (now index) (page .0))) ⌝ }
+    ensures { λ r. ⌜ r ≡ depthBefore trail (pagesAt (layoutOf e) (now (index .entry)) (page .0)) i ⌝ }
+{
+    if i == 0 {
+        return trail;
+    }
+    deep(depth(index, e, page, i - 1))
+}
+
+// The entry of a page at which figure 6 stops, begun at a position and with the depth before. In the page the discriminators of its own entries are
+// made, as if they were the whole list: figure 6 stops at the first that is above the key's bits from that position on.
 pub fn seek(index: &[u8], e: u8, page: PageNo, w: u64, key: u64, position: u64, trail: u64) -> Spot
     requires { ⌜ SeekPre (now index) e (page .0) w key position ⌝ }
     ensures { λ r. ⌜ Stopped w key position trail (pagesAt (layoutOf e) (now (index .entry)) (page .0)) r ⌝ }
 {
     let n = wide(count(index, e, page));
-    let mut bits = bits_ahead(w, key, position);
-    let mut t = trail;
+    let bits = bits_ahead(w, key, position);
+    let mut disc: u64 = 0;
     let mut i: usize = 0;
     while i + 1 < n {
-        let d = deep(depth(index, e, page, i));
-        let own = entry_bit(w, d);
-        if bits < own {
-            return Spot {
-                at: i,
-                position: first_position(w, bits),
-                trail: t,
-            };
+        let last = last_before(w, disc, deep(depth(index, e, page, i)));
+        if bits <= last {
+            break;
         }
-        bits = passed(bits, own);
-        t = d;
+        disc = last + 1;
         i += 1;
     }
     Spot {
         at: i,
-        position: first_position(w, bits),
-        trail: t,
+        position: differ_at(w, bits, disc),
+        trail: depth_before(index, e, page, i, trail),
     }
 }
 

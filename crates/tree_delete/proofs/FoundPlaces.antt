@@ -6,7 +6,8 @@ use Prim.Native.Nat.{ℕ, zero, suc, _≤_, _<_}
 use native.Mathlib.Omega.{arith}
 use lib.ListN.{length, getD, take, drop}
 use lib.Seq.{split-at}
-use Rattle.leaf_list.specs.Entries.{Entry, depthOf as entryDepth}
+use Rattle.leaf_list.specs.Entries.{Entry}
+use Rattle.leaf_list.specs.Depths.{LeafDepths}
 use Rattle.leaf_list.proofs.Lists.{all-at}
 use Rattle.page_tree.specs.Rows.{All, Closed, flats, lastDepth}
 use Rattle.page_tree.specs.Row.{depthOf}
@@ -24,7 +25,7 @@ use Rattle.index_table.proofs.NumberedPages.{numbered-aside}
 use Rattle.index_write.specs.Standing.{Owned}
 use Rattle.table_search.specs.declared.Spot.{Spot}
 use Rattle.table_search.specs.Places.{leftFrom, Stopped}
-use Rattle.table_search.proofs.Descents.{leaves-at}
+use Rattle.table_search.proofs.Descents.{depths-at}
 use Rattle.tree_delete.specs.Keeping.{numbersAt, Linked}
 use Rattle.tree_delete.specs.Removing.{followingAt, RemovePre}
 use Rattle.tree_delete.proofs.Sweeps.{row-owned}
@@ -80,7 +81,7 @@ module _ {e P n : ℕ} {b : List ℕ} {x : Ref} {w key position τ : ℕ} (h : R
       go (inl z) = omega (arith, closed-end (x .0) row i (h .sound .1) z, h .before, a .rise)
       go (inr z) = z
 
-  row-low : All (λ z. entryDepth z ≤ w) (flats (leaves n) (map (nodeAt 65535 n pages) row))
+  row-low : LeafDepths w (flats (leaves n) (map (nodeAt 65535 n pages) row))
   unfolding nodeAt
   row-low = h .depths
 
@@ -90,7 +91,7 @@ module _ {e P n : ℕ} {b : List ℕ} {x : Ref} {w key position τ : ℕ} (h : R
     back = mid-back front y rest (h .back .paged) found-linked found-owned;
     sound = all-at (SoundBelow L P n b) row i (0, 0) (a .inside) (h .sound .2);
     before = found-before;
-    depths = leaves-at (λ z. entryDepth z ≤ w) n (nodeAt 65535 n pages) row i (a .inside) row-low;
+    depths = depths-at w n (nodeAt 65535 n pages) row i (a .inside) row-low;
     width = h .width;
     narrow = h .narrow;
     high = a .high;

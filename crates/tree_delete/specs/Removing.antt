@@ -3,7 +3,8 @@ use mathlib.Core.Path.{_≡_}
 use mathlib.Core.List.{List, _++_, map}
 use Prim.Native.Nat.{ℕ, suc, _+_, _^_, _≤_, _<_}
 use lib.ListN.{length, drop}
-use Rattle.leaf_list.specs.Entries.{Entry, depthOf as entryDepth}
+use Rattle.leaf_list.specs.Entries.{Entry}
+use Rattle.leaf_list.specs.Depths.{LeafDepths}
 use Rattle.page_tree.specs.Rows.{All, flats}
 use Rattle.page_tree.specs.Row.{Holds}
 use Rattle.page_tree.specs.Tree.{leaves}
@@ -37,12 +38,12 @@ pub record AfterPre (e P n : ℕ) (b : List ℕ) (page : ℕ) : Type 0 where
   pub sized : SizedPage (layoutOf e) P n b page
   pub linked : All (Linked (layoutOf e) P n b) (pagesAt (layoutOf e) b page)
 
--- An entry of rank n before the next position of a key, below which pages may be changed; the depths below it have at most w bits.
+-- An entry of rank n before the next position of a key, below which pages may be changed; the depths below it are those of a leaf list.
 pub record RemovePre (e P n : ℕ) (b : List ℕ) (x : Ref) (w key position : ℕ) : Type 0 where
   pub back : BackPre e P n b x
   pub sound : SoundBelow (layoutOf e) P n b x
   pub before : x .0 < position
-  pub depths : All (λ y. entryDepth y ≤ w) (leaves n (nodeAt 65535 n (pagesAt (layoutOf e) b) x))
+  pub depths : LeafDepths w (leaves n (nodeAt 65535 n (pagesAt (layoutOf e) b) x))
   pub width : w ≤ 64
   pub narrow : key < 2 ^ w
   pub high : position ≤ w + 1

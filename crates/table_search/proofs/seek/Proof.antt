@@ -1,6 +1,6 @@
 -- Each turn passes one entry; the last entry stops the search at the latest. Assumes nothing.
-use borrow.Author.Needs.{needs}
 use mathlib.Core.Path.{_≡_, sym, ap, _∙_}
+use mathlib.Core.Logic.{⊎-elim, inl, inr}
 use Prim.Native.Nat.{_-_}
 use native.Mathlib.Omega.{arith}
 use lib.ListN.{length}
@@ -8,15 +8,16 @@ use Rattle.index_table.specs.Layout.{layoutOf, Ref}
 use Rattle.index_table.specs.Pages.{pagesAt}
 use Rattle.index_table.proofs.PageRows.{length-refs}
 use Rattle.table_search.proofs.Stops.{depth-inner, depth-low, read-entry}
-use Rattle.table_search.proofs.BitsAhead.{SeekingAhead, seeking-begun, seeking-low, ahead-stops, ahead-goes, ahead-ends}
+use Rattle.table_search.proofs.PageSearches.{SeekingBy, seek-begun, bits-low, disc-low, seek-stops, seek-shallow, seek-goes}
+use borrow.Author.Needs.{needs}
 use Rattle.table_search.proofs.seek.Statement.{statement}
 use Rattle.table_search.proofs.seek.Tie as tie
 
 abbrev Inv-loop : tie.InvT-loop
-Inv-loop index e page w key position trail n bits₀ t₀ i₀ bits t i = (n ≡ length (pagesAt (layoutOf e) index (page .0))) × SeekingAhead w key position trail (pagesAt (layoutOf e) index (page .0)) bits t i
+Inv-loop index e page w key position trail n bits disc₀ i₀ disc i = (n ≡ length (pagesAt (layoutOf e) index (page .0))) × SeekingBy w key position (pagesAt (layoutOf e) index (page .0)) bits disc i
 
 abbrev μ-loop : tie.MeasureT-loop
-μ-loop index e page w key position trail n bits₀ t₀ i₀ bits t i = n - i
+μ-loop index e page w key position trail n bits disc₀ i₀ disc i = n - i
 
 count-requires : tie.Need-count-requires Inv-loop μ-loop
 count-requires c κs = search needs
@@ -31,7 +32,7 @@ loop-holds : tie.Need-loop-holds Inv-loop μ-loop
 loop-holds c =
     let pre = c .before .before .before .before .pre in (
       c .before .wide .ensures .0 ∙ c .before .before .count .ensures ∙ sym (length-refs _ _),
-      seeking-begun (pre .width) (pre .low) (pre .some) (pre .high) _ (c .bits-ahead .ensures),
+      seek-begun (pre .width) (pre .low) (pre .some) (pre .high) (pre .unrepeated) _ (c .bits-ahead .ensures),
     )
 
 add-loop : tie.Need-add-loop Inv-loop μ-loop
@@ -43,8 +44,8 @@ depth-requires c κs = search needs
 deep-requires : tie.Need-deep-requires Inv-loop μ-loop
 deep-requires c κs = search needs
 
-entry-bit-requires : tie.Need-entry-bit-requires Inv-loop μ-loop
-entry-bit-requires c κs =
+last-before-requires : tie.Need-last-before-requires Inv-loop μ-loop
+last-before-requires c κs =
     let at = c .before .before .before in
     let pre = at .before .before .before .before .before .pre in (
       pre .width,
@@ -52,23 +53,8 @@ entry-bit-requires c κs =
       depth-low _ _ pre (at .loop .inv .1 .seeking .inside) (c .deep .ensures ∙ c .before .depth .ensures),
     )
 
-first-position-requires : tie.Need-first-position-requires Inv-loop μ-loop
-first-position-requires c κs =
-    let at = c .before .before .before .before .before in
-    let pre = at .before .before .before .before .before .pre in
-    (pre .width, seeking-low (pre .width) (pre .low) (at .loop .inv .1))
-
-returns : tie.Need-returns Inv-loop μ-loop
-returns c =
-    let tested = c .before .before in
-    let read = tested .before .before in
-    let at = read .before .before in
-    let pre = at .before .before .before .before .before .pre in
-    ahead-stops (pre .width) (pre .low) (at .loop .inv .1) (depth-low _ _ pre (at .loop .inv .1 .seeking .inside) (tested .before .deep .ensures ∙ read .depth .ensures))
-    (tested .before .deep .ensures ∙ read .depth .ensures ∙ ap (λ (x : Ref). x .0) (read-entry _ _ _ _ (at .loop .inv .1 .seeking .inside))) (tested .entry-bit .ensures) (c .before .if1 .taken) _ (c .first-position .ensures)
-
-passed-requires : tie.Need-passed-requires Inv-loop μ-loop
-passed-requires c κs = search needs
+add-disc : tie.Need-add-disc Inv-loop μ-loop
+add-disc c = search needs
 
 add-i : tie.Need-add-i Inv-loop μ-loop
 add-i c = search needs
@@ -78,26 +64,35 @@ loop-less c = search needs
 
 loop-again : tie.Need-loop-again Inv-loop μ-loop
 loop-again c =
-    let tested = c .before .before in
-    let read = tested .before .before in
+    let read = c .before .before .before in
     let at = read .before .before in
-    let pre = at .before .before .before .before .before .pre in (
+    let pre = at .before .before .before .before .before .pre in
+    let is = c .before .before .deep .ensures ∙ read .depth .ensures in (
       at .loop .inv .0,
-      ahead-goes (pre .width) (pre .low) (at .loop .inv .1) (depth-low _ _ pre (at .loop .inv .1 .seeking .inside) (tested .before .deep .ensures ∙ read .depth .ensures))
-          (tested .before .deep .ensures ∙ read .depth .ensures ∙ ap (λ (x : Ref). x .0) (read-entry _ _ _ _ (at .loop .inv .1 .seeking .inside))) (tested .entry-bit .ensures) (omega arith) (c .before .if1 .left) _
-          (c .passed .ensures),
+      rw (c .before .last-before .ensures)
+          (seek-goes (pre .width) (pre .low) (at .loop .inv .1) (depth-low _ _ pre (at .loop .inv .1 .seeking .inside) is) (is ∙ ap (λ (x : Ref). x .0) (read-entry _ _ _ _ (at .loop .inv .1 .seeking .inside))) (omega arith) (omega (arith, c .before .last-before .ensures))),
     )
 
-first-position-requires-2 : tie.Need-first-position-requires-2 Inv-loop μ-loop
-first-position-requires-2 c κs =
-    let pre = c .before .before .before .before .before .before .pre in
-    (pre .width, seeking-low (pre .width) (pre .low) (c .before .loop .inv .1))
-
-returns-2 : tie.Need-returns-2 Inv-loop μ-loop
-returns-2 c =
-    let at = c .before .before in
+differ-at-requires : tie.Need-differ-at-requires Inv-loop μ-loop
+differ-at-requires c κs =
+    let at = c .before in
     let pre = at .before .before .before .before .before .pre in
-    ahead-ends (pre .width) (pre .low) (at .loop .inv .1) _ (at .loop .inv .0) (omega arith) _ (c .first-position2 .ensures)
+    (pre .width, bits-low (pre .width) (pre .low) (at .loop .inv .1), disc-low (pre .width) (pre .low) (at .loop .inv .1))
+
+depth-before-requires : tie.Need-depth-before-requires Inv-loop μ-loop
+depth-before-requires c κs = search needs
+
+returns : tie.Need-returns Inv-loop μ-loop
+returns c =
+    let at = c .before .before .before in
+    let pre = at .before .before .before .before .before .pre in
+    let inv = at .loop .inv .1 in
+    seek-stops (pre .width) (pre .low) inv _ _ (c .before .differ-at .ensures) (c .depth-before .ensures)
+    (⊎-elim
+    (λ x. inl (omega (arith, x .left, inv .seeking .inside, at .loop .inv .0)))
+    (λ x. inr
+    (seek-shallow (pre .width) (pre .low) inv (depth-low _ _ pre (inv .seeking .inside) (x .2 .ensures ∙ x .1 .ensures)) (x .2 .ensures ∙ x .1 .ensures ∙ ap (λ (y : Ref). y .0) (read-entry _ _ _ _ (inv .seeking .inside))) (omega (arith, x .4 .taken, x .3 .ensures))))
+    (c .before .before .loop-test .came))
 
 pub seek-spec : {M : Type 1} → statement M
 seek-spec =
@@ -112,12 +107,11 @@ seek-spec =
     add-loop
     depth-requires
     deep-requires
-    entry-bit-requires
-    first-position-requires
-    returns
-    passed-requires
+    last-before-requires
+    add-disc
     add-i
     loop-less
     loop-again
-    first-position-requires-2
-    returns-2)
+    differ-at-requires
+    depth-before-requires
+    returns)

@@ -1,0 +1,118 @@
+-- The search of a page's row by the discriminators of its own entries. Assumes nothing.
+use mathlib.Core.Path.{_≡_, sym, ap, subst, _∙_}
+use mathlib.Core.Logic.{_⊎_, inl, inr}
+use mathlib.Core.List.{List, _∷_}
+use Prim.Native.Nat.{ℕ, suc, _+_, _-_, _/_, _%_, _^_, _≤_, _<_}
+use native.Mathlib.Omega.{arith}
+use native.Mathlib.Nat.{mod-lt, eq-or-lt-of-le, eq-zero-or-pos, lt-of-le-of-lt, zero-div}
+use native.Mathlib.Numerals.{add-one}
+use lib.ListN.{length, getD, drop}
+use lib.Pow.{pow-pos}
+use lib.Seq.{drop-cons}
+use Rattle.leaf_list.specs.Depths.{Unmatched, Unrepeated}
+use Rattle.index_table.specs.Layout.{Ref}
+use Rattle.table_search.specs.Places.{ahead, lastBefore, differAt, depthBefore, depthOf, Stopped}
+use Rattle.table_search.proofs.BitsAhead.{order, ahead-low}
+use Rattle.table_search.proofs.PageDiscriminators.{Apart, next-before, next-behind, apart-start, apart-stop, apart-pass, apart-next, apart-position}
+use Rattle.table_search.proofs.Stops.{Seeking, seeking-start, seeking-more, seeking-stop}
+
+-- The search before entry i, with the discriminator D of the entries before it: a bit that D has is the depth of one that no shallower one followed.
+pub record SeekingBy (w key b₀ : ℕ) (row : List Ref) (a D i : ℕ) : Type 0 where
+  pub bits-are : a ≡ ahead w key b₀
+  pub position : ℕ
+  pub seeking : Seeking w key b₀ row position i
+  pub apart : Apart w a D position
+  pub below : D ≤ a
+  pub unclosed : (z : ℕ) → z ≤ w → D / 2 ^ (w - z) % 2 ≡ 1 → Unmatched depthOf z (drop i row)
+  pub unrepeated : Unrepeated depthOf (drop i row)
+
+module _ {w key b₀ : ℕ} {row : List Ref} (wide : w ≤ 64) (pos : 0 < b₀) where
+  pub seek-begun : 1 ≤ length row → b₀ ≤ w + 1 → Unrepeated depthOf row → (a : ℕ) → a ≡ ahead w key b₀ → SeekingBy w key b₀ row a 0 0
+  seek-begun some high u a e =
+      record {
+        bits-are = e;
+        position = b₀;
+        seeking = seeking-start w key b₀ row some high;
+        apart = subst (λ (n : ℕ). Apart w n 0 b₀) (sym e) (apart-start w key b₀ high);
+        below = omega arith;
+        unclosed = λ z h q. absurd (omega (arith, zero-div (2 ^ (w - z)), q));
+        unrepeated = u;
+      }
+
+  module _ {a D i : ℕ} (s : SeekingBy w key b₀ row a D i) where
+    abbrev b : ℕ
+    b = s .position
+
+    pub bits-low : a < 2 ^ w
+    bits-low = rw (s .bits-are) (ahead-low w key b₀ pos)
+
+    pub disc-low : D < 2 ^ w
+    disc-low = lt-of-le-of-lt (s .below) bits-low
+
+    -- The position and the depth before are told by what the search carries.
+    pub seek-stops : {τ : ℕ} (p t : ℕ) → p ≡ differAt w a D → t ≡ depthBefore τ row i → (suc i ≡ length row) ⊎ (getD row i (0, 0) .0 < b)
+        → Stopped w key b₀ τ row (record { at = i; position = p; trail = t })
+    seek-stops {τ} p t e f h =
+        seeking-stop w key b₀ τ row b i p t (s .seeking) (e ∙ apart-position w a D b (omega (arith, pos, s .seeking .rise)) (s .apart)) f h
+
+    here : drop i row ≡ getD row i (0, 0) ∷ drop (suc i) row
+    here = drop-cons row i (0, 0) (s .seeking .inside)
+
+    module _ {d : ℕ} (low : d ≤ w) (is : d ≡ getD row i (0, 0) .0) where
+      -- The entry's bit is clear.
+      clear : D / 2 ^ (w - d) % 2 ≡ 0
+      clear = go (eq-zero-or-pos (D / 2 ^ (w - d) % 2))
+        where
+          no : Unmatched depthOf d (getD row i (0, 0) ∷ drop (suc i) row) → ⊥
+          no (inl h) = omega (arith, is, h)
+          no (inr h) = omega (arith, is, h .0)
+
+          go : (D / 2 ^ (w - d) % 2 ≡ 0) ⊎ (0 < D / 2 ^ (w - d) % 2) → D / 2 ^ (w - d) % 2 ≡ 0
+          go (inl z) = z
+          go (inr z) = absurd (no (subst (Unmatched depthOf d) here (s .unclosed d low (omega (arith, z, mod-lt (D / 2 ^ (w - d)) (pow-pos 1))))))
+
+      pub seek-shallow : a ≤ lastBefore w d D → getD row i (0, 0) .0 < b
+      seek-shallow l = rw (sym is) (apart-stop w a D b d low (s .apart) l)
+
+      -- The entries behind it.
+      behind : Unmatched depthOf d (drop (i + 1) row) × Unrepeated depthOf (drop (i + 1) row)
+      behind =
+          let at : drop (suc i) row ≡ drop (i + 1) row = ap (λ (n : ℕ). drop n row) (sym (add-one i)) in
+          let u : Unrepeated depthOf (getD row i (0, 0) ∷ drop (suc i) row) = subst (Unrepeated depthOf) here (s .unrepeated) in
+          (rw (is, sym at) (u .0), rw (sym at) (u .1))
+
+      -- What is still to be closed behind it.
+      unclosed-next : (z : ℕ) → z ≤ w → suc (lastBefore w d D) / 2 ^ (w - z) % 2 ≡ 1 → Unmatched depthOf z (drop (i + 1) row)
+      unclosed-next z h q = go (order z d)
+        where
+          at : drop (suc i) row ≡ drop (i + 1) row
+          at = ap (λ (n : ℕ). drop n row) (sym (add-one i))
+
+          deeper : z < d → Unmatched depthOf z (getD row i (0, 0) ∷ drop (suc i) row) → Unmatched depthOf z (drop (i + 1) row)
+          deeper l (inl u) = absurd (omega (arith, is, l, u))
+          deeper l (inr u) = rw (sym at) (u .1)
+
+          before : (z ≡ d) ⊎ (z < d) → Unmatched depthOf z (drop (i + 1) row)
+          before (inl e) = rw e (behind .0)
+          before (inr l) =
+              deeper l (subst (Unmatched depthOf z) here (s .unclosed z h (ap (λ (n : ℕ). n % 2) (sym (next-before w d D (w - z) clear (omega arith))) ∙ q)))
+
+          go : (z ≤ d) ⊎ (d < z) → Unmatched depthOf z (drop (i + 1) row)
+          go (inl l) = before (eq-or-lt-of-le l)
+          go (inr l) = absurd (omega (arith, q, next-behind w d D (w - z) (omega arith)))
+
+      -- One entry more is passed.
+      pub seek-goes : i + 1 < length row → lastBefore w d D < a → SeekingBy w key b₀ row a (lastBefore w d D + 1) (i + 1)
+      seek-goes h l =
+          let passes : b ≤ d = apart-pass w a D b d low (s .apart) l in
+          let n = apart-next w key b₀ b D wide (s .seeking .rise) d low passes clear (subst (λ (m : ℕ). Apart w m D b) (s .bits-are) (s .apart)) in
+          let more : lastBefore w d D + 1 ≡ suc (lastBefore w d D) = add-one (lastBefore w d D) in
+          record {
+            bits-are = s .bits-are;
+            position = n .position;
+            seeking = seeking-more w key b₀ row b i d (n .position) (s .seeking) h is passes (n .passed);
+            apart = subst (λ (m : ℕ). Apart w m (lastBefore w d D + 1) (n .position)) (sym (s .bits-are)) (subst (λ (m : ℕ). Apart w (ahead w key b₀) m (n .position)) (sym more) (n .apart));
+            below = omega (arith, l);
+            unclosed = λ z g q. unclosed-next z g (ap (λ (m : ℕ). m / 2 ^ (w - z) % 2) (sym more) ∙ q);
+            unrepeated = behind .1;
+          }
