@@ -3,12 +3,11 @@ use mathlib.Core.Path.{_≡_, refl, sym, ap, subst, _∙_}
 use mathlib.Core.Logic.{_⊎_, inl, inr}
 use Prim.Native.Nat.{ℕ, suc, _+_, _-_, _*_, _/_, _%_, _^_, _≤_, _<_}
 use native.Mathlib.Omega.{arith}
-use native.Mathlib.Nat.{mod-lt, eq-or-lt-of-le, eq-zero-or-pos, lt-of-lt-of-le, lt-of-not-le, not-le-of-lt, suc-mul, one-mul, add-mul, mul-assoc, zero-div, div-eq-of-lt}
+use native.Mathlib.Nat.{mod-lt, eq-or-lt-of-le, eq-zero-or-pos, lt-of-lt-of-le, lt-of-not-le, not-le-of-lt, suc-mul, one-mul, add-mul, mul-assoc, zero-mul, zero-div, div-eq-of-lt}
 use lib.Bits.{bitOr, or-add-and, and-mask}
 use lib.Count.{leadingZeros, leading-top}
 use lib.Pow.{pow-pos, pow-mono, pow-add, mod-pow-add, split, high, low, shl-shr, shr-shr, shr-mono, ones-lt, ones-split, suc-ones}
 use borrow.Author.Tests.{eq-eqb, ne-eqb}
-use Rattle.leaf_list.specs.Keys.{bits, firstDifference}
 use Rattle.leaf_list.proofs.KeyLaws.{first-difference}
 use Rattle.table_search.specs.Places.{ahead, lastBefore, differAt, Passed}
 use Rattle.table_search.proofs.NextPositions.{next-none, next-some}
@@ -62,6 +61,16 @@ next-before w d D j clear h =
     ∙ ap (λ (n : ℕ). n / 2 ^ (j - (w - d))) (ap (λ (n : ℕ). n / 2 ^ (w - d)) (disc-next w d D) ∙ shl-shr (suc (D / 2 ^ (w - d))) (w - d))
     ∙ fewer-same (suc (D / 2 ^ (w - d))) (D / 2 ^ (w - d)) 1 (j - (w - d)) (omega arith) (half-even (D / 2 ^ (w - d)) clear)
     ∙ sym (fewer D (w - d) j (omega arith))
+
+-- It is above the one before.
+pub disc-rises : (w d D : ℕ) → D ≤ lastBefore w d D
+disc-rises w d D = omega (arith, split D (w - d), mod-lt D (pow-pos (w - d)), suc-ones (w - d))
+
+-- A number of w bits is followed by one.
+pub next-fits : (w d D : ℕ) → 0 < d → d ≤ w → D / 2 ^ (w - d) % 2 ≡ 0 → D < 2 ^ w → suc (lastBefore w d D) < 2 ^ w
+next-fits w d D pos inside clear h =
+    let none : suc (lastBefore w d D) / 2 ^ w ≡ 0 = next-before w d D w clear (omega arith) ∙ div-eq-of-lt h in
+    omega (arith, split (suc (lastBefore w d D)) w, ap (λ (n : ℕ). n * 2 ^ w) none, zero-mul (2 ^ w), mod-lt (suc (lastBefore w d D)) (pow-pos w))
 
 -- ---- an entry of depth d
 

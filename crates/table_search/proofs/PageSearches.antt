@@ -13,7 +13,7 @@ use Rattle.leaf_list.specs.Depths.{Unmatched, Unrepeated}
 use Rattle.index_table.specs.Layout.{Ref}
 use Rattle.table_search.specs.Places.{ahead, lastBefore, differAt, depthBefore, depthOf, Stopped}
 use Rattle.table_search.proofs.BitsAhead.{order, ahead-low}
-use Rattle.table_search.proofs.PageDiscriminators.{Apart, next-before, next-behind, apart-start, apart-stop, apart-pass, apart-next, apart-position}
+use Rattle.table_search.proofs.PageDiscriminators.{Apart, next-before, next-behind, disc-rises, next-fits, apart-start, apart-stop, apart-pass, apart-next, apart-position}
 use Rattle.table_search.proofs.Stops.{Seeking, seeking-start, seeking-more, seeking-stop}
 
 -- The search before entry i, with the discriminator D of the entries before it: a bit that D has is the depth of one that no shallower one followed.
@@ -25,6 +25,18 @@ pub record SeekingBy (w key b₀ : ℕ) (row : List Ref) (a D i : ℕ) : Type 0 
   pub below : D ≤ a
   pub unclosed : (z : ℕ) → z ≤ w → D / 2 ^ (w - z) % 2 ≡ 1 → Unmatched depthOf z (drop i row)
   pub unrepeated : Unrepeated depthOf (drop i row)
+
+-- It ends there: the entry is the last, or shallower than the position.
+pub record Halted (w key b₀ : ℕ) (row : List Ref) (a D i : ℕ) : Type 0 where
+  pub by : SeekingBy w key b₀ row a D i
+  pub stops : (suc i ≡ length row) ⊎ (getD row i (0, 0) .0 < by .position)
+
+-- The same place, told otherwise.
+abbrev pub Ends : {w key b₀ : ℕ} {row : List Ref} {a D i : ℕ} → SeekingBy w key b₀ row a D i → ℕ → ℕ → Type 0
+Ends {w} {key} {b₀} {row} {a} s D i = Halted w key b₀ row a D i
+
+pub ended : {w key b₀ : ℕ} {row : List Ref} {a D i D′ i′ : ℕ} → Halted w key b₀ row a D i → D′ ≡ D → i′ ≡ i → Halted w key b₀ row a D′ i′
+ended {w} {key} {b₀} {row} {a} h e f = rw (e, f) h
 
 module _ {w key b₀ : ℕ} {row : List Ref} (wide : w ≤ 64) (pos : 0 < b₀) where
   pub seek-begun : 1 ≤ length row → b₀ ≤ w + 1 → Unrepeated depthOf row → (a : ℕ) → a ≡ ahead w key b₀ → SeekingBy w key b₀ row a 0 0
@@ -49,12 +61,6 @@ module _ {w key b₀ : ℕ} {row : List Ref} (wide : w ≤ 64) (pos : 0 < b₀) 
     pub disc-low : D < 2 ^ w
     disc-low = lt-of-le-of-lt (s .below) bits-low
 
-    -- The position and the depth before are told by what the search carries.
-    pub seek-stops : {τ : ℕ} (p t : ℕ) → p ≡ differAt w a D → t ≡ depthBefore τ row i → (suc i ≡ length row) ⊎ (getD row i (0, 0) .0 < b)
-        → Stopped w key b₀ τ row (record { at = i; position = p; trail = t })
-    seek-stops {τ} p t e f h =
-        seeking-stop w key b₀ τ row b i p t (s .seeking) (e ∙ apart-position w a D b (omega (arith, pos, s .seeking .rise)) (s .apart)) f h
-
     here : drop i row ≡ getD row i (0, 0) ∷ drop (suc i) row
     here = drop-cons row i (0, 0) (s .seeking .inside)
 
@@ -71,8 +77,12 @@ module _ {w key b₀ : ℕ} {row : List Ref} (wide : w ≤ 64) (pos : 0 < b₀) 
           go (inl z) = z
           go (inr z) = absurd (no (subst (Unmatched depthOf d) here (s .unclosed d low (omega (arith, z, mod-lt (D / 2 ^ (w - d)) (pow-pos 1))))))
 
-      pub seek-shallow : a ≤ lastBefore w d D → getD row i (0, 0) .0 < b
-      seek-shallow l = rw (sym is) (apart-stop w a D b d low (s .apart) l)
+      pub seek-fits : 0 < d → lastBefore w d D + 1 < 2 ^ w
+      seek-fits h = omega (arith, next-fits w d D h low clear disc-low)
+
+      -- It stops the search.
+      pub halt-here : a ≤ lastBefore w d D → Halted w key b₀ row a D i
+      halt-here l = record { by = s; stops = inr (rw (sym is) (apart-stop w a D b d low (s .apart) l)) }
 
       -- The entries behind it.
       behind : Unmatched depthOf d (drop (i + 1) row) × Unrepeated depthOf (drop (i + 1) row)
@@ -116,3 +126,36 @@ module _ {w key b₀ : ℕ} {row : List Ref} (wide : w ≤ 64) (pos : 0 < b₀) 
             unclosed = λ z g q. unclosed-next z g (ap (λ (m : ℕ). m / 2 ^ (w - z) % 2) (sym more) ∙ q);
             unrepeated = behind .1;
           }
+
+    pub halt-last : length row ≤ i + 1 → Halted w key b₀ row a D i
+    halt-last h = record { by = s; stops = inl (omega (arith, s .seeking .inside)) }
+
+  -- It is passed, and the next is the last.
+  pub halt-next : {a D i d : ℕ} → SeekingBy w key b₀ row a D i → d ≤ w → d ≡ getD row i (0, 0) .0
+      → (last : ℕ) → last ≡ lastBefore w d D → i + 1 < length row → length row ≤ i + 2 → last < a → Halted w key b₀ row a (last + 1) (i + 1)
+  halt-next s low is last e h g l = rw e (halt-last (seek-goes s low is h (omega arith)) (omega arith))
+
+  -- Two entries, of the depths d and c.
+  module _ {a D i d c : ℕ} (s : SeekingBy w key b₀ row a D i) (low : d ≤ w) (is : d ≡ getD row i (0, 0) .0) (c-low : c ≤ w) (c-is : c ≡ getD row (i + 1) (0, 0) .0)
+      (first second : ℕ) (first-is : first ≡ lastBefore w d D) (second-is : second ≡ lastBefore w c (first + 1)) where
+    second-too : second ≡ lastBefore w c (lastBefore w d D + 1)
+    second-too = second-is ∙ ap (λ (n : ℕ). lastBefore w c (n + 1)) first-is
+
+    -- Both are passed,
+    pub seek-two : i + 2 < length row → second < a → SeekingBy w key b₀ row a (second + 1) (i + 2)
+    seek-two h l =
+        let one = seek-goes s low is (omega arith) (omega (arith, disc-rises w c (first + 1), first-is, second-is, l)) in
+        let e : i + 1 + 1 ≡ i + 2 = omega arith in
+        rw second-too (subst (SeekingBy w key b₀ row a (lastBefore w c (lastBefore w d D + 1) + 1)) e (seek-goes one c-low c-is (omega arith) (omega (arith, second-too))))
+
+    -- or the second stops the search, where the first is read again.
+    pub halt-second : {d′ : ℕ} → d′ ≡ getD row i (0, 0) .0 → (last : ℕ) → last ≡ lastBefore w d′ D → i + 1 < length row → last < a → a ≤ second → Halted w key b₀ row a (last + 1) (i + 1)
+    halt-second d′-is last last-is h l g =
+        let same : last ≡ lastBefore w d D = last-is ∙ ap (λ (n : ℕ). lastBefore w n D) (d′-is ∙ sym is) in
+        rw same (halt-here (seek-goes s low is h (omega (arith, same))) c-low c-is (omega (arith, second-too)))
+
+  -- The position and the depth before are told by what the search carries.
+  pub seek-stops : {a D i τ : ℕ} → Halted w key b₀ row a D i → (p t : ℕ) → p ≡ differAt w a D → t ≡ depthBefore τ row i → Stopped w key b₀ τ row (record { at = i; position = p; trail = t })
+  seek-stops {a} {D} {i} {τ} h p t e f =
+      let s = h .by in
+      seeking-stop w key b₀ τ row (s .position) i p t (s .seeking) (e ∙ apart-position w a D (s .position) (omega (arith, pos, s .seeking .rise)) (s .apart)) f (h .stops)

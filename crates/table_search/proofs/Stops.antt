@@ -83,15 +83,15 @@ passed-next w key b d r e h p = record { left = rw (eq-eqb d b e, le-leb b w h) 
 pub read-entry : (L : Layout) (b : List ℕ) (p i : ℕ) → i < length (pagesAt L b p) → refAt L (pageBytes L b p) i ≡ getD (pagesAt L b p) i (0, 0)
 read-entry L b p i h = sym (getD-refs L (pageBytes L b p) i (0, 0) (omega (arith, length-refs L (pageBytes L b p))))
 
-pub depth-inner : {b : List ℕ} {e page w key position : ℕ} (i d : ℕ) → SeekPre b e page w key position → i + 1 < length (pagesAt (layoutOf e) b page)
-    → d ≡ refAt (layoutOf e) (pageBytes (layoutOf e) b page) i .0 → 0 < d
-depth-inner {b} {e} {page} i d pre h q =
-    subst (λ (n : ℕ). 0 < n) (sym (q ∙ ap (λ (x : Ref). x .0) (read-entry (layoutOf e) b page i (omega arith)))) (pre .inner i h)
+-- A depth that is read is the row's, and at most w; above 0 where it is not the last.
+module _ {b : List ℕ} {e page w key position : ℕ} (i d : ℕ) (pre : SeekPre b e page w key position) where
+  pub read-depth : i < length (pagesAt (layoutOf e) b page) → d ≡ refAt (layoutOf e) (pageBytes (layoutOf e) b page) i .0 → (d ≤ w) × (d ≡ getD (pagesAt (layoutOf e) b page) i (0, 0) .0)
+  read-depth h q =
+      let is : d ≡ getD (pagesAt (layoutOf e) b page) i (0, 0) .0 = q ∙ ap (λ (x : Ref). x .0) (read-entry (layoutOf e) b page i h) in
+      (subst (λ (n : ℕ). n ≤ w) (sym is) (all-at (λ x. x .0 ≤ w) (pagesAt (layoutOf e) b page) i (0, 0) h (pre .depths)), is)
 
-pub depth-low : {b : List ℕ} {e page w key position : ℕ} (i d : ℕ) → SeekPre b e page w key position → i < length (pagesAt (layoutOf e) b page)
-    → d ≡ refAt (layoutOf e) (pageBytes (layoutOf e) b page) i .0 → d ≤ w
-depth-low {b} {e} {page} {w} i d pre h q =
-    subst (λ (n : ℕ). n ≤ w) (sym (q ∙ ap (λ (x : Ref). x .0) (read-entry (layoutOf e) b page i h))) (all-at (λ x. x .0 ≤ w) (pagesAt (layoutOf e) b page) i (0, 0) h (pre .depths))
+  pub depth-inner : i + 1 < length (pagesAt (layoutOf e) b page) → d ≡ refAt (layoutOf e) (pageBytes (layoutOf e) b page) i .0 → 0 < d
+  depth-inner h q = subst (λ (n : ℕ). 0 < n) (sym (read-depth (omega arith) q .1)) (pre .inner i h)
 
 -- The depth before an entry: that before the row, or that of the entry before it.
 pub depth-first : (τ : ℕ) (row : List Ref) (i : ℕ) → i ≡ 0 → τ ≡ depthBefore τ row i

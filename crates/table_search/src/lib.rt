@@ -116,13 +116,21 @@ pub fn seek(index: &[u8], e: u8, page: PageNo, w: u64, key: u64, position: u64, 
     let bits = bits_ahead(w, key, position);
     let mut disc: u64 = 0;
     let mut i: usize = 0;
-    while i + 1 < n {
-        let last = last_before(w, disc, deep(depth(index, e, page, i)));
-        if bits <= last {
+    while i + 2 < n {
+        let first = last_before(w, disc, deep(depth(index, e, page, i)));
+        let second = last_before(w, first + 1, deep(depth(index, e, page, i + 1)));
+        if bits <= second {
             break;
         }
-        disc = last + 1;
-        i += 1;
+        disc = second + 1;
+        i += 2;
+    }
+    if i + 1 < n {
+        let last = last_before(w, disc, deep(depth(index, e, page, i)));
+        if last < bits {
+            disc = last + 1;
+            i += 1;
+        }
     }
     Spot {
         at: i,
