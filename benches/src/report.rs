@@ -22,7 +22,7 @@ the same tables. Checks and what is compared with them come in random order. Ins
 round in which an on finds no page (7) is left out. Format has rounds of its own, for a sixth of the time, on tables of
 the same size, in turn with zeros over the same bytes; it is the whole call, which has no check. The check of the
 tables that it leaves, as many bytes with one entry, is measured there too. The check of eight herds in turn has rounds
-of its own as well, as long: the others check one herd again and again, and the processor learns its dummies by heart.";
+of its own as well, as long: the others check one herd again and again, and we take it that the processor learns it.";
 
 /// Prints what was done, with pages of E entries.
 pub fn print_method(entries: usize) {

@@ -1,7 +1,8 @@
 // Pages changed within their own bytes: an entry replaced, entries taken out.
 ghost use mathlib.Core.Path.{_≡_};
-ghost use Prim.Native.Nat.{_≤_, _<_};
-ghost use lib.ListN.{length, set};
+ghost use Prim.Native.Nat.{_+_, _*_, _≤_, _<_};
+ghost use lib.ListN.{length, replicate, set};
+ghost use Rattle.byte_moves.specs.Over.{over};
 ghost use Rattle.index_table.specs.Layout.{layoutOf};
 ghost use Rattle.index_table.specs.Pages.{pagesAt};
 ghost use Rattle.page_change.specs.Changing.{WholePage, withRow, without};
@@ -22,6 +23,18 @@ pub fn replace_entry(index: &mut [u8], e: u8, page: PageNo, i: usize, d: u8, p: 
     write_entry(index, at + (2 + 3 * i), d, p);
 }
 
+// Zeros for n entries from a place on; most often there is one.
+fn clear_entries(index: &mut [u8], at: usize, n: usize)
+    requires { ⌜ (at + 3 * n ≤ length (now index)) × (n ≤ 255) ⌝ }
+    ensures { λ r. ⌜ now (index .exit) ≡ over (now (index .entry)) at (replicate (3 * n) 0) ⌝ }
+{
+    if n == 1 {
+        write_entry(index, at, 0, 0);
+        return;
+    }
+    clear(index, at, 3 * n);
+}
+
 // The entries of a page from one place up to another taken out; those behind them move down, and the bytes left over are zero.
 pub fn close(index: &mut [u8], e: u8, page: PageNo, from: usize, to: usize)
     requires { ⌜ WholePage e (now index) (page .0) × (from ≤ to) × (to ≤ length (pagesAt (layoutOf e) (now index) (page .0))) ⌝ }
@@ -31,6 +44,6 @@ pub fn close(index: &mut [u8], e: u8, page: PageNo, from: usize, to: usize)
     let n = wide(count(index, e, page));
     let gone = to - from;
     move_down(index, at + (2 + 3 * from), at + (2 + 3 * to), 3 * (n - to));
-    clear(index, at + (2 + 3 * (n - gone)), 3 * gone);
+    clear_entries(index, at + (2 + 3 * (n - gone)), gone);
     index[at + 1] = (n - gone) as u8;
 }

@@ -1,6 +1,6 @@
 -- Figure 11 within one page of level 0: the row that is left. Assumes nothing.
 use mathlib.Core.Path.{_≡_, refl, sym, ap, ap₂, _∙_}
-use mathlib.Core.Bool.{Bool, true, false, cond}
+use mathlib.Core.Bool.{Bool, true, false, true≢false}
 use mathlib.Core.Option.{none}
 use mathlib.Core.List.{List, [], _∷_, _++_, append-assoc, map-append}
 use Prim.Native.Nat.{ℕ, suc, _+_, _-_, _≤_, _<_}
@@ -27,16 +27,13 @@ use Rattle.page_change.proofs.PageChanges.{row-read, row-whole, row-again}
 use Rattle.page_delete.specs.OnePage.{leafRow, askedBefore, Staying, NearPre, FollowedPre, GivePre, NearDone, NearPost, struckAt, StrikePost, DummyPost}
 use Rattle.page_delete.proofs.StayingEntries.{sweep-last, idle-leaves}
 
-true-false : _≡_ {A = Bool} true false → ⊥
-true-false y = absurd (let z : _≡_ {A = ℕ} 1 0 = ap (λ (t : Bool). cond t 1 0) y in omega arith)
-
 -- Nothing is changed.
 pub near-none : {e : ℕ} {b : List ℕ} {page at τ₀ : ℕ} {o : Left Entry} → NearPost e b page at τ₀ o b false
-near-none = record { done = λ y. absurd (true-false (sym y)); none = λ y. refl }
+near-none = record { done = λ y. absurd (true≢false (sym y)); none = λ y. refl }
 
 -- The row is left.
 pub near-some : {e : ℕ} {b : List ℕ} {page at τ₀ : ℕ} {o : Left Entry} {b′ : List ℕ} → NearDone e b page at τ₀ o b′ → NearPost e b page at τ₀ o b′ true
-near-some h = record { done = λ y. h; none = λ y. absurd (true-false y) }
+near-some h = record { done = λ y. h; none = λ y. absurd (true≢false y) }
 
 -- The last depth is that of the entries behind.
 last-behind : (τ σ : ℕ) (xs ys : List Ref) (z : Ref) (zs : List Ref) → lastDepth depthOf τ (xs ++ z ∷ zs) ≡ lastDepth depthOf σ (ys ++ z ∷ zs)
@@ -200,18 +197,18 @@ module _ {e : ℕ} {b : List ℕ} {page at d : ℕ} (h : GivePre e b page at d) 
   pub dummy-some : {τ next : ℕ} → τ ≤ d → d ≤ next → (b′ : List ℕ) → b′ ≡ withRow e b page (set given at (d, 65535)) → DummyPost e b page at τ next b′ true
   dummy-some {τ} {next} g k b′ w = record {
     done = λ y τ₀ ν f. record { of-entry = (entry d none ∷ [], Idle); struck = rw (h .depth-is, f, le-ltb d τ g, le-ltb next d k) refl; done = dummy-done b′ w };
-    none = λ y. absurd (true-false y);
+    none = λ y. absurd (true≢false y);
   }
 
 -- or nothing is changed.
 pub dummy-none : {e : ℕ} {b : List ℕ} {page at τ next : ℕ} → DummyPost e b page at τ next b false
-dummy-none = record { done = λ y. absurd (true-false (sym y)); none = λ y. refl }
+dummy-none = record { done = λ y. absurd (true≢false (sym y)); none = λ y. refl }
 
 -- ---- figure 11 at the entry
 
 -- Nothing is changed.
 pub strike-none : {e : ℕ} {b : List ℕ} {page at τ τ₀ : ℕ} → StrikePost e b page at τ τ₀ b false
-strike-none = record { done = λ y. absurd (true-false (sym y)); none = λ y. refl }
+strike-none = record { done = λ y. absurd (true≢false (sym y)); none = λ y. refl }
 
 module _ {e : ℕ} {b : List ℕ} {page at : ℕ} (h : NearPre e b page at) where
   abbrev entries : List Ref

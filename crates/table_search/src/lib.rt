@@ -140,6 +140,7 @@ pub fn seek(index: &[u8], e: u8, page: PageNo, w: u64, key: u64, position: u64, 
 }
 
 // From a page of a level down to the entry that figure 6 finds. The position list is carried on by its next position, and the depth before with it.
+// The slice goes down as a part of itself, all of it: handed on as it is, it would be copied at each level.
 pub fn descend(
     index: &[u8],
     e: u8,
@@ -169,7 +170,7 @@ pub fn descend(
     }
     let below = child(index, e, page, at);
     descend(
-        index,
+        &index[0..],
         e,
         pages,
         level - 1,

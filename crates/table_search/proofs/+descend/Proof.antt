@@ -1,9 +1,15 @@
 -- Level by level: the page is searched, and on level 0 the entry is the answer. Assumes nothing.
 use borrow.Author.Needs.{needs}
-use mathlib.Core.Path.{refl, _∙_}
+use mathlib.Core.Path.{_≡_, refl, sym, subst, _∙_}
+use mathlib.Core.List.{List}
+use lib.ListN.{length, take}
+use lib.Seq.{take-all}
 use native.Mathlib.Omega.{arith}
+use Rattle.index_table.specs.Layout.{layoutOf}
+use Rattle.index_table.specs.Pages.{pagesAt}
+use Rattle.table_search.specs.Places.{DescendPre, Descended}
 use Rattle.table_search.proofs.Descents.{descend-within, descend-seek, descend-inside, descend-leaf, descend-down, descend-up}
-use Prim.Native.Nat.{ℕ, _<_}
+use Prim.Native.Nat.{ℕ, _-_, _<_}
 use borrow.Fn.Kinds.{In}
 use borrow.Fn.PlainCycle.{Measures, is, falls, and}
 use Rattle.table_search.proofs.descend.Reads as descend
@@ -16,6 +22,10 @@ use Rattle.index_table.proofs.layout.deep.Reads as deep-reads
 use Rattle.table_search.proofs.seek.Reads as seek-reads
 use Rattle.table_search.proofs.+descend.{statement}
 use Rattle.table_search.proofs.+descend.Tie.{close}
+
+-- The part of a slice from its start on.
+whole : (b : List ℕ) → take (length b - 0) b ≡ b
+whole b = take-all (length b - 0) b (omega arith)
 
 abbrev μ-descend : Measures 1 descend-kinds.ps ℕ
 μ-descend κs a = a .1 .1 .1 .0
@@ -68,15 +78,31 @@ descend-child-requires t c κs = (descend-within (c .before .before .before .pre
 descend-sub-descend : (t : ℕ) → descend-lts.Need-sub-descend (descend-claims t) (descend-at t) descend.Post
 descend-sub-descend t c = search needs
 
+descend-part-descend-start : (t : ℕ) → descend-lts.Need-part-descend-start (descend-claims t) (descend-at t) descend.Post
+descend-part-descend-start t c = search needs
+
+descend-part-descend-end : (t : ℕ) → descend-lts.Need-part-descend-end (descend-claims t) (descend-at t) descend.Post
+descend-part-descend-end t c = search needs
+
+descend-sub-descend-2 : (t : ℕ) → descend-lts.Need-sub-descend-2 (descend-claims t) (descend-at t) descend.Post
+descend-sub-descend-2 t c = search needs
+
 descend-descend-requires : (t : ℕ) → descend-lts.Need-descend-requires (descend-claims t) (descend-at t) descend.Post
 descend-descend-requires t c κs =
-    let at = c .before .before in
-    (omega (arith, at .before .before .pre .0), descend-down _ (c .before .if1 .left) (at .before .before .pre .1) _ (at .seek .ensures) _ (c .child .ensures))
+    let at = c .before .before .before in
+    let start = at .before .before in (
+      omega (arith, start .pre .0),
+      subst (λ (b : List ℕ). DescendPre b (start .args .e) (start .args .pages) (start .args .level - 1) (c .before .child .result .0) (start .args .w) (start .args .key) (at .seek .result .position)) (sym (whole (start .args .index .now)))
+          (descend-down _ (c .before .before .if1 .left) (start .pre .1) _ (at .seek .ensures) _ (c .before .child .ensures)),
+    )
 
 descend-returns-2 : (t : ℕ) → descend-lts.Need-returns-2 (descend-claims t) (descend-at t) descend.Post
 descend-returns-2 t c =
-    let at = c .before .before .before in
-    descend-up _ (c .before .before .if1 .left) (at .before .before .pre .1) _ (at .seek .ensures) _ (c .before .child .ensures) _ (c .descend .ensures)
+    let at = c .before .before .before .before in
+    let start = at .before .before in
+    descend-up _ (c .before .before .before .if1 .left) (start .pre .1) _ (at .seek .ensures) _ (c .before .before .child .ensures) _
+    (subst (λ (b : List ℕ). Descended (start .args .w) (start .args .key) (at .seek .result .position) (at .seek .result .trail) (start .args .level - 1) (pagesAt (layoutOf (start .args .e)) b) (c .before .before .child .result .0) (c .descend .result)) (whole (start .args .index .now))
+    (c .descend .ensures))
 
 pub +descend-spec : {M : Type 1} → statement M
 +descend-spec = close μ-descend λ t. descend-lts.spec (descend-claims t)
@@ -89,5 +115,8 @@ pub +descend-spec : {M : Type 1} → statement M
     (descend-returns t)
     (descend-child-requires t)
     (descend-sub-descend t)
+    (descend-part-descend-start t)
+    (descend-part-descend-end t)
+    (descend-sub-descend-2 t)
     (descend-descend-requires t)
     (descend-returns-2 t)

@@ -56,33 +56,32 @@ move-down-requires c κs =
     let start = place .before .before in
     move-room (start .pre .0) _ _ (start .pre .1) (start .pre .2) (count .count .ensures) (wide .wide .ensures .0) _ (place .page-start .ensures)
 
-sub-clear : tie.Need-sub-clear
-sub-clear c =
+sub-clear-entries : tie.Need-sub-clear-entries
+sub-clear-entries c =
     let wide = c .before .before .before .before .before in
     let count = wide .before in
     let place = count .before .before in
     let start = place .before .before in
     omega (arith, row-count (start .pre .0) _ _ (start .pre .1) (start .pre .2) (count .count .ensures) (wide .wide .ensures .0), start .pre .2)
 
-mul-clear : tie.Need-mul-clear
-mul-clear c = search needs
+mul-clear-entries : tie.Need-mul-clear-entries
+mul-clear-entries c = search needs
 
-add-clear : tie.Need-add-clear
-add-clear c = search needs
+add-clear-entries : tie.Need-add-clear-entries
+add-clear-entries c = search needs
 
-add-clear-2 : tie.Need-add-clear-2
-add-clear-2 c = search needs
+add-clear-entries-2 : tie.Need-add-clear-entries-2
+add-clear-entries-2 c = search needs
 
-mul-clear-2 : tie.Need-mul-clear-2
-mul-clear-2 c = search needs
-
-clear-requires : tie.Need-clear-requires
-clear-requires c κs =
+clear-entries-requires : tie.Need-clear-entries-requires
+clear-entries-requires c κs =
     let wide = c .before .before .before .before .before in
     let count = wide .before in
     let place = count .before .before in
-    let start = place .before .before in
-    clear-room (start .pre .0) (start .args .from) (start .args .to) (start .pre .1) (start .pre .2) (count .count .ensures) (wide .wide .ensures .0) _ (c .before .before .before .move-down .last .0) (place .page-start .ensures) (c .before .before .before .move-down .kept .0)
+    let start = place .before .before in (
+      clear-room (start .pre .0) (start .args .from) (start .args .to) (start .pre .1) (start .pre .2) (count .count .ensures) (wide .wide .ensures .0) _ (c .before .before .before .move-down .last .0) (place .page-start .ensures) (c .before .before .before .move-down .kept .0),
+      omega (arith, row-count (start .pre .0) _ _ (start .pre .1) (start .pre .2) (count .count .ensures) (wide .wide .ensures .0), start .pre .2, wide .wide .ensures .1),
+    )
 
 sub-index : tie.Need-sub-index
 sub-index c =
@@ -102,7 +101,7 @@ slice-write-index : tie.Need-slice-write-index
 slice-write-index c = search needs
 
 same-length : tie.Need-same-length
-same-length c = simp length-set (c .before .before .clear .kept .0 ∙ c .before .before .before .before .before .before .move-down .kept .0)
+same-length c = simp length-set (c .before .before .clear-entries .kept .0 ∙ c .before .before .before .before .before .before .move-down .kept .0)
 
 returns : tie.Need-returns
 returns c =
@@ -110,7 +109,7 @@ returns c =
     let count = wide .before in
     let place = count .before .before in
     let start = place .before .before in
-    entries-closed (start .pre .0) _ _ (start .pre .1) (start .pre .2) (count .count .ensures) (wide .wide .ensures .0) _ _ _ (place .page-start .ensures) (c .before .before .before .before .before .before .move-down .ensures) (c .before .before .clear .ensures)
+    entries-closed (start .pre .0) _ _ (start .pre .1) (start .pre .2) (count .count .ensures) (wide .wide .ensures .0) _ _ _ (place .page-start .ensures) (c .before .before .before .before .before .before .move-down .ensures) (c .before .before .clear-entries .ensures)
 
 pub close-spec : {M : Type 1} → statement M
 close-spec =
@@ -129,12 +128,11 @@ close-spec =
     sub-move-down
     mul-move-down-3
     move-down-requires
-    sub-clear
-    mul-clear
-    add-clear
-    add-clear-2
-    mul-clear-2
-    clear-requires
+    sub-clear-entries
+    mul-clear-entries
+    add-clear-entries
+    add-clear-entries-2
+    clear-entries-requires
     sub-index
     cast-index
     add-index
