@@ -1,10 +1,10 @@
-//! Links the static library that `rt staticlib tag_index` writes.
+//! Links the static library as benches/run has put it.
 
 use std::path::Path;
 
 fn main() {
     let root = Path::new(env!("CARGO_MANIFEST_DIR")).join("..");
-    let archives = root.join("target/staticlib");
+    let archives = root.join("target/benches");
     println!("cargo:rustc-link-search=native={}", archives.display());
     println!("cargo:rustc-link-lib=static=tag_index");
     println!("cargo:rerun-if-changed={}", archives.display());
