@@ -4,11 +4,11 @@ use mathlib.Core.Logic.{_≢_, _⊎_, inl, inr}
 use mathlib.Core.Bool.{Bool, true, false, not}
 use mathlib.Core.List.{_∷_}
 use Prim.Native.Nat.{ℕ, zero, suc, _+_, _-_, _*_, _/_, _%_, _^_, _≤_, _<_}
-use native.Mathlib.Nat.{div-self, mod-self, zero-mul, div-eq-of-lt, le-div-iff-mul-le, eq-or-lt-of-le, le-of-suc-le-suc, lt-of-lt-of-le, lt-of-not-le, not-le-of-lt, mod-eq-of-lt, add-mul, one-mul, mul-assoc, mul-comm, pow-suc}
+use native.Mathlib.Nat.{add-zero, eq-zero-or-pos, div-self, mod-self, zero-mul, div-eq-of-lt, le-div-iff-mul-le, eq-or-lt-of-le, le-of-suc-le-suc, lt-of-lt-of-le, lt-of-not-le, not-le-of-lt, mod-eq-of-lt, add-mul, one-mul, mul-assoc, mul-comm, pow-suc}
 use native.Mathlib.Numerals.{add-one}
 use native.Mathlib.Omega.{arith}
 use lib.Bits.{bitOr, bitAnd, bitXor, or-add-and, and-mask, and-mod, and-shr, and-zero-r, or-lt, or-step, or-zero-r, xor-lt, xor-shr, xor-self, xor-add-and, and-le-l, and-le-r}
-use lib.Count.{leadingZeros, leading-top}
+use lib.Count.{leadingZeros, leading-of-zero, leading-top}
 use lib.Dec.{leb, eqb}
 use lib.Pow.{pow-mono, pow-pos, shl-exact, shl-lt, shr-lt, shr-shr, split}
 use borrow.Author.Tests.{eq-eqb, ne-eqb, leb-true, leb-false}
@@ -91,21 +91,28 @@ xor-other a b j h q = omega (arith, shr-pos (bitXor a b) j h, xor-shr a b j ∙ 
 abbrev pub byZeros : ℕ → ℕ → ℕ → ℕ
 byZeros w a b = leadingZeros 64 (bitXor a b) + w - 63
 
-pub difference-by-zeros : (w a b : ℕ) → w ≤ 64 → a < 2 ^ w → b < 2 ^ w → a ≢ b
-    → (byZeros w a b ≡ firstDifference 0 (bits w a) (bits w b)) × (0 < byZeros w a b) × (byZeros w a b ≤ w)
-difference-by-zeros w a b h ha hb d = go (leading-top 64 (bitXor a b) some (lt-of-lt-of-le low (pow-mono h)))
+-- The same key differs from itself nowhere.
+pub same-key : (n l a : ℕ) → firstDifference l (bits n a) (bits n a) ≡ suc (l + n)
+same-key zero l a = rw (add-zero l)
+same-key (suc n) l a = same-bit (eqb (a / 2 ^ n % 2) 1) l (bits n a) (bits n a) ∙ same-key n (suc l) a ∙ omega arith
+
+pub difference-by-zeros : (w a b : ℕ) → w ≤ 64 → a < 2 ^ w → b < 2 ^ w
+    → (byZeros w a b ≡ firstDifference 0 (bits w a) (bits w b)) × (0 < byZeros w a b) × (a ≢ b → byZeros w a b ≤ w)
+difference-by-zeros w a b h ha hb = go (eq-zero-or-pos (bitXor a b))
   where
     low : bitXor a b < 2 ^ w
     low = xor-lt w a b ha hb
 
-    some : 0 < bitXor a b
-    some = let z : bitXor a b ≢ 0 = λ e. d (xor-zero a b e) in omega arith
-
-    go : (j : ℕ) × (leadingZeros 64 (bitXor a b) + suc j ≡ 64) × (2 ^ j ≤ bitXor a b) × (bitXor a b < 2 ^ suc j)
-        → (byZeros w a b ≡ firstDifference 0 (bits w a) (bits w b)) × (0 < byZeros w a b) × (byZeros w a b ≤ w)
-    go (j, zeros, at, under) =
-        let g : j < w = lt-of-not-le (λ (g : w ≤ j). not-le-of-lt (lt-of-lt-of-le low (pow-mono g)) at) in
-        (sym (first-difference w 0 a b j g (xor-same a b (suc j) under) (xor-other a b j at) ∙ omega arith), omega arith, omega arith)
+    go : (bitXor a b ≡ 0) ⊎ (0 < bitXor a b) → (byZeros w a b ≡ firstDifference 0 (bits w a) (bits w b)) × (0 < byZeros w a b) × (a ≢ b → byZeros w a b ≤ w)
+    go (inl z) =
+        let zeros : leadingZeros 64 (bitXor a b) ≡ 64 = ap (leadingZeros 64) z ∙ leading-of-zero 64 in
+        let same : firstDifference 0 (bits w a) (bits w b) ≡ suc (0 + w) = ap (λ (x : ℕ). firstDifference 0 (bits w a) (bits w x)) (sym (xor-zero a b z)) ∙ same-key w 0 a in
+        (omega (arith, zeros, same), omega (arith, zeros), λ d. absurd (d (xor-zero a b z)))
+    go (inr some) =
+        let t = leading-top 64 (bitXor a b) some (lt-of-lt-of-le low (pow-mono h)) in
+        let j : ℕ = t .0 in
+        let g : j < w = lt-of-not-le (λ (g : w ≤ j). not-le-of-lt (lt-of-lt-of-le low (pow-mono g)) (t .2)) in
+        (sym (first-difference w 0 a b j g (xor-same a b (suc j) (t .3)) (xor-other a b j (t .2)) ∙ omega (arith, t .1)), omega (arith, t .1), λ d. omega (arith, t .1))
 
 -- ---- the first bits, and the width
 

@@ -21,10 +21,10 @@ pub fn bit_is_set(w: u64, key: u64, p: u64) -> bool
     key & bit(w, p) != 0
 }
 
-// The first bit where two keys of w bits differ.
+// The first bit where two keys of w bits differ; w + 1 where they are the same.
 pub fn first_difference(w: u64, a: u64, b: u64) -> u64
-    requires { ⌜ (w ≤ 64) × (a < 2 ^ w) × (b < 2 ^ w) × (a ≢ b) ⌝ }
-    ensures { λ r. ⌜ (r ≡ firstDifference 0 (bits w a) (bits w b)) × (0 < r) × (r ≤ w) ⌝ }
+    requires { ⌜ (w ≤ 64) × (a < 2 ^ w) × (b < 2 ^ w) ⌝ }
+    ensures { λ r. ⌜ (r ≡ firstDifference 0 (bits w a) (bits w b)) × (0 < r) × (a ≢ b → r ≤ w) ⌝ }
 {
     u64::leading_zeros(a ^ b) as u64 + w - 63
 }

@@ -1,12 +1,16 @@
 -- The dummies that 5.1 puts in, one after the other. Assumes nothing.
 use mathlib.Core.Path.{_≡_, refl, sym, ap, ap₂, _∙_}
+use mathlib.Core.Logic.{_⊎_, inl, inr}
 use mathlib.Core.Bool.{Bool, true, false, cond, _&&_}
 use mathlib.Core.Option.{none}
 use mathlib.Core.List.{List, [], _∷_, _++_, map, map-append, zip, append-assoc, append-nil}
-use Prim.Native.Nat.{ℕ, zero, suc, _+_, _*_, _≤_, _<_}
+use Prim.Native.Nat.{ℕ, zero, suc, _+_, _-_, _*_, _/_, _%_, _^_, _≤_, _<_}
 use native.Mathlib.Omega.{arith}
-use lib.Dec.{ltb, leb}
+use native.Mathlib.Nat.{mod-lt, le-trans, lt-of-le-of-lt, lt-of-lt-of-le, div-le-self, div-eq-of-lt, add-mul, mul-assoc}
+use lib.Count.{ones, ones-cat, ones-le}
+use lib.Dec.{ltb, leb, eqb}
 use lib.ListN.{length, set, take, drop, length-append, length-map}
+use lib.Pow.{pow-pos, pow-mono, pow-add, split, high, shr-lt, shr-shr}
 use borrow.Author.Tests.{lt-ltb, le-ltb, le-leb, ltb-true, ltb-false}
 use Rattle.leaf_list.specs.Keys.{Key, bits}
 use Rattle.leaf_list.specs.Entries.{Entry, entry}
@@ -19,6 +23,8 @@ use Rattle.byte_moves.proofs.OverLaws.{over-none, over-append}
 use Rattle.index_table.specs.Layout.{Ref, refBytes, rowBytes}
 use Rattle.index_table.proofs.PageRows.{length-row-bytes, row-bytes-append}
 use Rattle.table_search.specs.Places.{later, leftFrom, NextPosition}
+use Rattle.table_search.proofs.NextPositions.{drop-bits, last-bit}
+use Rattle.table_search.proofs.BitsAhead.{order, last-low}
 use Rattle.new_entries.specs.Entries.{refOf}
 
 -- ---- the positions between two depths
@@ -128,24 +134,66 @@ dummies-same b (p ∷ ps) rest = go (ltb b p) refl (dummies-same b ps rest)
 
 -- ---- counted
 
--- n dummies before the position p.
-pub record Counting (w key low high n p : ℕ) : Type 0 where
-  pub es : List Entry
-  pub passing : Passing w key low high p es
-  pub counted : n ≡ length es
+-- A bit is counted where it gives a dummy.
+count-one : (low high i q : ℕ) (k : Key) → q < 2 → low ≤ i → suc i < high
+    → length (dummies low high (positions i (eqb q 1 ∷ k)) []) ≡ q + length (dummies low high (positions (suc i) k) [])
+count-one low high i zero k l h g = omega arith
+count-one low high i (suc zero) k l h g = ap length (dummies-between low high (suc i) (positions (suc i) k) [] (omega arith) g) ∙ omega arith
+count-one low high i (suc (suc q)) k l h g = absurd (omega arith)
 
-pub counting-none : {w key low high p : ℕ} → low ≤ w → NextPosition w key low p → Counting w key low high 0 p
-counting-none {w} {key} {low} {high} {p} h next = record { es = []; passing = passing-none w key low high p h next; counted = refl }
+ones-bit : (q : ℕ) → q < 2 → ones q ≡ q
+unfolding ones
+ones-bit zero h = refl
+ones-bit (suc zero) h = refl
+ones-bit (suc (suc q)) h = absurd (omega arith)
 
-pub counting-more : {w key low high n p r : ℕ} → p < high → high ≤ suc w → NextPosition w key p r → Counting w key low high n p → Counting w key low high (n + 1) r
-counting-more {p = p} g s next h =
-    record { es = h .es ++ entry p none ∷ []; passing = passing-more g s next (h .passing); counted = omega (arith, h .counted, length-append (h .es) (entry p none ∷ [])) }
+-- The last m + 1 bits without the last j of them are one bit and the others.
+bits-between : (x m j : ℕ) → j ≤ m → x % 2 ^ suc m / 2 ^ j ≡ (x / 2 ^ m % 2) * 2 ^ (m - j) + x % 2 ^ m / 2 ^ j
+bits-between x m j h =
+    let q : ℕ = x / 2 ^ m % 2 in
+    let r : ℕ = x % 2 ^ m in
+    let e : m ≡ m - j + j = omega arith in
+    let power : q * 2 ^ m ≡ q * 2 ^ (m - j) * 2 ^ j = ap (λ (n : ℕ). q * n) (ap (λ (n : ℕ). 2 ^ n) e ∙ pow-add 2 (m - j) j) ∙ sym (mul-assoc q (2 ^ (m - j)) (2 ^ j)) in
+    ap (λ (n : ℕ). n / 2 ^ j) (last-bit x m ∙ omega (arith, power, split r j, add-mul (q * 2 ^ (m - j)) (r / 2 ^ j) (2 ^ j)))
+    ∙ high (q * 2 ^ (m - j) + r / 2 ^ j) j (mod-lt r (pow-pos j))
 
-pub counting-all : {w key low high n p : ℕ} → high ≤ p → Counting w key low high n p → n ≡ length (dummies low high (positions 0 (bits w key)) [])
-counting-all g h = h .counted ∙ ap length (passing-all g (h .passing))
+-- Of the last m bits, those between low and high are counted by a word that has them alone.
+count-from : (m i low to key j : ℕ) → low ≤ i → to + j ≡ suc (i + m) → length (dummies low to (positions i (bits m key)) []) ≡ ones (key % 2 ^ m / 2 ^ j)
+count-from zero i low to key j h e =
+    ap length (dummies-none low to i [] [] (omega arith))
+    ∙ sym (ap ones (div-eq-of-lt (lt-of-lt-of-le (mod-lt key (pow-pos 0)) (pow-pos j))) ∙ ones-bit 0 (omega arith))
+count-from (suc m) i low to key j h e = go (order j m) (count-from m (suc i) low to key j (omega arith) (omega arith))
+  where
+    q : ℕ
+    q = key / 2 ^ m % 2
 
-pub counting-few : {w key low high n p : ℕ} → Counting w key low high n p → n ≤ w
-counting-few h = omega (arith, h .counted, h .passing .few, h .passing .inside)
+    bit : q < 2
+    bit = mod-lt (key / 2 ^ m) (omega arith)
+
+    go : (j ≤ m) ⊎ (m < j) → length (dummies low to (positions (suc i) (bits m key)) []) ≡ ones (key % 2 ^ m / 2 ^ j)
+        → length (dummies low to (positions i (bits (suc m) key)) []) ≡ ones (key % 2 ^ suc m / 2 ^ j)
+    go (inl g) ih =
+        count-one low to i q (bits m key) bit h (omega arith)
+        ∙ ap₂ _+_ (sym (ones-bit q bit)) ih
+        ∙ sym (ones-cat (m - j) q (key % 2 ^ m / 2 ^ j) (shr-lt (m - j) j (lt-of-lt-of-le (mod-lt key (pow-pos m)) (pow-mono (let s : m ≤ m - j + j = omega arith in s)))))
+        ∙ ap ones (sym (bits-between key m j g))
+    go (inr g) ih =
+        ap length (dummies-none low to i (bits (suc m) key) [] (omega arith))
+        ∙ sym (ap ones (div-eq-of-lt (lt-of-lt-of-le (mod-lt key (pow-pos (suc m))) (pow-mono g))) ∙ ones-bit 0 (omega arith))
+
+pub counted : (w key low to : ℕ) → low ≤ w → to ≤ w → (behind : ℕ) → behind ≡ key % 2 ^ (w - low)
+    → ones (behind / 2 ^ (w - to) / 2 ^ 1) ≡ length (dummies low to (positions 0 (bits w key)) [])
+counted w key low to h g behind is =
+    let z : 0 + low ≡ low = omega arith in
+    ap ones (shr-shr behind (w - to) 1 ∙ ap (λ (n : ℕ). n / 2 ^ (w - to + 1)) is)
+    ∙ sym (count-from (w - low) low low to key (w - to + 1) (omega arith) (omega arith))
+    ∙ ap (λ (k : Key). length (dummies low to (positions low k) [])) (sym (drop-bits low w key h))
+    ∙ ap length (sym (rw z at (dummies-skip to 0 low (bits w key) [] (omega (arith, bits-length w key)))))
+
+pub count-low : (w key low to behind : ℕ) → behind ≡ key % 2 ^ (w - low) → ones (behind / 2 ^ (w - to) / 2 ^ 1) ≤ w
+count-low w key low to behind is =
+    ones-le w (behind / 2 ^ (w - to) / 2 ^ 1)
+    (lt-of-le-of-lt (le-trans (div-le-self (behind / 2 ^ (w - to)) (2 ^ 1)) (div-le-self behind (2 ^ (w - to)))) (last-low w key low behind is))
 
 -- ---- written
 

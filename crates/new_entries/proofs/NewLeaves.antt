@@ -93,13 +93,20 @@ module _ {w key r old : ℕ} {leaf : Leaf} (pre : NewPre w key r old leaf) {b l 
   between low h = record { width = pre .width; narrow = pre .narrow; low-inside = h; high-inside = omega (arith, inside) }
 
   -- The first difference is above the leaf's depth.
-  pub new-above : b < l → NewPost w key r old leaf (record { alone = false; low = b; high = b; first = leaf .pointer; depth = leaf .depth; second = r; count = 2 })
-  new-above h =
+  pub new-above : b < l → {n : ℕ} → n ≡ length (dummies b b (positions 0 (bits w key)) [])
+      → NewPost w key r old leaf (record { alone = false; low = b; high = b; first = leaf .pointer; depth = leaf .depth; second = r; count = n + 2 })
+  new-above h {n} m =
       let none-between : dummies b b (positions 0 (bits w key)) (entry b (some (leaf .pointer)) ∷ entry (leaf .depth) (some r) ∷ []) ≡ entry b (some (leaf .pointer)) ∷ entry (leaf .depth) (some r) ∷ [] =
       dummies-same b (positions 0 (bits w key)) (entry b (some (leaf .pointer)) ∷ entry (leaf .depth) (some r) ∷ []) in
       record {
         entries = λ keyOf e. rw (live, e, ← difference, ← depth, lt-ltb b l h) none-between;
-        newly = record { between = between b inside; closing = pre .depth-inside; first-fits = pre .live; second-fits = pre .free-record; counted = sym (ap length none-between) };
+        newly = record {
+          between = between b inside;
+          closing = pre .depth-inside;
+          first-fits = pre .live;
+          second-fits = pre .free-record;
+          counted = ap (λ (k : ℕ). k + 2) (m ∙ ap length (dummies-same b (positions 0 (bits w key)) [])) ∙ sym (ap length none-between);
+        };
       }
 
   -- It is below: dummies, and the two leaves in key order.
@@ -117,6 +124,12 @@ module _ {w key r old : ℕ} {leaf : Leaf} (pre : NewPre w key r old leaf) {b l 
           counted = sym (pair-long w key l b x (leaf .depth) y (n + 2) ∙ ap (λ (k : ℕ). k + 2) (sym m));
         };
       }
+
+  -- The same, as the code names it.
+  pub new-named : {n low x y low′ x′ y′ : ℕ} → low′ ≡ low → x′ ≡ x → y′ ≡ y → n ≡ length (dummies low′ b (positions 0 (bits w key)) [])
+      → (n ≡ length (dummies low b (positions 0 (bits w key)) []) → NewPost w key r old leaf (record { alone = false; low = low; high = b; first = x; depth = leaf .depth; second = y; count = n + 2 }))
+      → NewPost w key r old leaf (record { alone = false; low = low′; high = b; first = x′; depth = leaf .depth; second = y′; count = n + 2 })
+  new-named e f g m h = rw (e, f, g) (h (rw e at m))
 
   pub order-smaller : key < old → bothLeaves (below (bits w key) (bits w old)) b (leaf .depth) r (leaf .pointer) [] ≡ entry b (some r) ∷ entry (leaf .depth) (some (leaf .pointer)) ∷ []
   order-smaller h = rw (below-bits w key old (pre .narrow) (pre .other-narrow), lt-ltb key old h) refl

@@ -1,7 +1,7 @@
 // What stands in the place of the entry found once a key is put in (section 5.1).
 ghost use mathlib.Core.Path.{_≡_};
 ghost use mathlib.Core.List.{[]};
-ghost use Prim.Native.Nat.{_≤_};
+ghost use Prim.Native.Nat.{_≤_, _<_};
 ghost use lib.ListN.{length};
 ghost use Rattle.leaf_list.specs.Keys.{bits};
 ghost use Rattle.leaf_list.specs.Insertion.{dummies};
@@ -22,55 +22,41 @@ pub struct News {
 
 // How many one-bits p of the key there are with low < p < high.
 fn count_dummies(w: u64, key: u64, low: u64, high: u64) -> usize
-    requires { ⌜ DummiesPre w key low high ⌝ }
+    requires { ⌜ DummiesPre w key low high × (0 < high) × (high ≤ w) ⌝ }
     ensures { λ r. ⌜ (r ≡ length (dummies low high (positions 0 (bits w key)) [])) × (r ≤ w) ⌝ }
 {
-    let mut n: usize = 0;
-    let mut p = table_search::next_position(w, key, low);
-    while p < high {
-        n += 1;
-        p = table_search::next_position(w, key, p);
-    }
-    n
+    let behind = table_search::last_bits(w, key, low);
+    u64::count_ones(behind >> (w - high) >> 1) as usize
 }
 
-// What stands for a leaf of another key, old: the leaf of the smaller key first.
+// What stands for a leaf of another key, old: where they differ above the leaf's depth, no dummy and the new leaf second; else the leaf of the smaller
+// key first.
 fn beside_leaf(w: u64, key: u64, record: u32, old: u64, leaf: Leaf) -> News
     requires { ⌜ NewPre w key «record» old leaf ⌝ }
     ensures { λ r. ⌜ NewPost w key «record» old leaf r ⌝ }
 {
     let b = leaf_list::first_difference(w, key, old);
     let l = leaf_list::leaf_depth(leaf.trail, leaf.depth);
-    if b < l {
-        return News {
-            alone: false,
-            low: b,
-            high: b,
-            first: leaf.pointer,
-            depth: leaf.depth,
-            second: record,
-            count: 2,
-        };
-    }
-    let n = count_dummies(w, key, l, b);
+    let mut low = l;
+    let mut first = leaf.pointer;
+    let mut second = record;
     if key < old {
-        return News {
-            alone: false,
-            low: l,
-            high: b,
-            first: record,
-            depth: leaf.depth,
-            second: leaf.pointer,
-            count: n + 2,
-        };
+        first = record;
+        second = leaf.pointer;
     }
+    if b < l {
+        low = b;
+        first = leaf.pointer;
+        second = record;
+    }
+    let n = count_dummies(w, key, low, b);
     News {
         alone: false,
-        low: l,
+        low,
         high: b,
-        first: leaf.pointer,
+        first,
         depth: leaf.depth,
-        second: record,
+        second,
         count: n + 2,
     }
 }

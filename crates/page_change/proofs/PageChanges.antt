@@ -6,7 +6,7 @@ use native.Mathlib.Omega.{arith}
 use lib.ListN.{length, getD, take, drop, set, replicate, length-append, length-take, length-drop, length-set, length-replicate, replicate-append-replicate, take-append-drop}
 use lib.Seq.{drop-at, take-at, take-take, drop-drop, set-split, split-at, length-take-le}
 use Rattle.byte_moves.specs.Over.{over}
-use Rattle.byte_moves.proofs.OverLaws.{over-one, over-append, take-drop}
+use Rattle.byte_moves.proofs.OverLaws.{over-one, take-drop}
 use Rattle.index_table.specs.Layout.{Layout, layoutOf, pageSize, pageStart, pageBytes, levelOf, countOf, Ref, refsOf, refBytes, rowBytes, pageOf, rowPage, Fitting, store}
 use Rattle.index_table.specs.Pages.{pagesAt}
 use Rattle.index_table.proofs.PageBytes.{page-stored, length-store}
@@ -47,6 +47,17 @@ module _ {e : ℕ} {b : List ℕ} {p : ℕ} (h : WholePage e b p) where
   split : (fs ms cs : List Ref) → row ≡ fs ++ (ms ++ cs) → pageBytes L b p ≡ (head ++ rowBytes 2 fs) ++ rowBytes 2 ms ++ (rowBytes 2 cs ++ spare)
   unfolding pageOf
   split fs ms cs z = h .bytes ∙ ap (λ (t : List Ref). head ++ rowBytes 2 t ++ spare) z ∙ three-rows head fs ms cs spare
+
+  -- The zeros behind its entries.
+  spare-bytes : take (3 * (e - length row)) (drop (pageStart L p + (2 + 3 * length row)) b) ≡ spare
+  unfolding pageBytes pageOf
+  spare-bytes =
+      let k = 2 + 3 * length row in
+      let m = 3 * (e - length row) in
+      let f = h .few in
+      let all : k + m ≡ pageSize L = omega (arith, f) in
+      sym (ap (take m) (drop-drop k (pageStart L p) b)) ∙ take-drop k m (drop (pageStart L p) b) ∙ ap (λ (j : ℕ). drop k (take j (drop (pageStart L p) b))) all
+      ∙ ap (drop k) (h .bytes) ∙ drop-at (head ++ rowBytes 2 row) spare k (length-append head (rowBytes 2 row) ∙ omega (arith, length-row-bytes 2 row))
 
   page-long : (row′ : List Ref) → length row′ ≤ e → length (rowPage e level row′) ≡ pageSize L
   page-long row′ l = length-page-of L (level ∷ length row′ ∷ []) row′ refl l
@@ -167,13 +178,13 @@ module _ {e : ℕ} {b : List ℕ} {p : ℕ} (h : WholePage e b p) where
         length-append (rowBytes 2 cs) (replicate (3 * gap) 0)
         ∙ omega (arith, length-append (rowBytes 2 ms) (rowBytes 2 cs), length-replicate {A = ℕ} (3 * gap) 0, length-row-bytes 2 ms, lm)
 
-    moved : (at : ℕ) (b₁ b₂ : List ℕ) → at ≡ pageStart L p → b₁ ≡ over b (at + (2 + 3 * from)) (take (3 * (length row - to)) (drop (at + (2 + 3 * to)) b))
-        → b₂ ≡ over b₁ (at + (2 + 3 * (length row - gap))) (replicate (3 * gap) 0) → b₂ ≡ store L b p page₂
-    moved at b₁ b₂ z g g₂ =
+    moved : (at : ℕ) (b₂ : List ℕ) → at ≡ pageStart L p → b₂ ≡ over b (at + (2 + 3 * from)) (take (3 * (length row - to)) (drop (at + (2 + 3 * from) + 3 * gap) b) ++ replicate (3 * gap) 0)
+        → b₂ ≡ store L b p page₂
+    moved at b₂ z g =
         let i = at + (2 + 3 * from) in
-        let first : b₁ ≡ over b i (rowBytes 2 cs) = g ∙ ap (over b i) (ap (λ (k : ℕ). take (3 * (length row - to)) (drop (k + (2 + 3 * to)) b)) z ∙ tail-bytes) in
-        let place : at + (2 + 3 * (length row - gap)) ≡ i + length (rowBytes 2 cs) = omega (arith, length-row-bytes 2 cs, lc) in
-        g₂ ∙ ap₂ (λ (m : List ℕ) (k : ℕ). over m k (replicate (3 * gap) 0)) first place ∙ over-append b i (rowBytes 2 cs) (replicate (3 * gap) 0)
+        let place : i + 3 * gap ≡ pageStart L p + (2 + 3 * to) = omega (arith, z, order) in
+        let tail : take (3 * (length row - to)) (drop (i + 3 * gap) b) ≡ rowBytes 2 cs = ap (λ (k : ℕ). take (3 * (length row - to)) (drop k b)) place ∙ tail-bytes in
+        g ∙ ap (λ (t : List ℕ). over b i (t ++ replicate (3 * gap) 0)) tail
         ∙ over-part L b p (h .within) (head ++ rowBytes 2 fs) (rowBytes 2 ms ++ rowBytes 2 cs) spare (rowBytes 2 cs ++ replicate (3 * gap) 0) page-mid same-bytes i
         (omega (arith, head-long fs, la, z))
 
@@ -205,11 +216,12 @@ module _ {e : ℕ} {b : List ℕ} {p : ℕ} (h : WholePage e b p) where
         (replicate-append-replicate {A = ℕ} (3 * gap) (3 * (e - length row)) 0
         ∙ ap (λ (k : ℕ). replicate k 0) (let f = h .few in let z : 3 * gap + 3 * (e - length row) ≡ 3 * (e - (length row - gap)) = omega (arith, f) in z))
 
-    entries-out : (at : ℕ) (b₁ b₂ : List ℕ) → at ≡ pageStart (layoutOf e) p → b₁ ≡ over b (at + (2 + 3 * from)) (take (3 * (length row - to)) (drop (at + (2 + 3 * to)) b))
-        → b₂ ≡ over b₁ (at + (2 + 3 * (length row - gap))) (replicate (3 * gap) 0) → set b₂ (at + 1) (length row - gap) ≡ withRow e b p (without from to row)
+    entries-out : (at : ℕ) (b₂ : List ℕ) → at ≡ pageStart (layoutOf e) p
+        → b₂ ≡ over b (at + (2 + 3 * from)) (take (3 * (length row - to)) (drop (at + (2 + 3 * from) + 3 * gap) b) ++ replicate (3 * gap) 0)
+        → set b₂ (at + 1) (length row - gap) ≡ withRow e b p (without from to row)
     unfolding pageOf
-    entries-out at b₁ b₂ z g g₂ =
-        let m = moved at b₁ b₂ z g g₂ in
+    entries-out at b₂ z g =
+        let m = moved at b₂ z g in
         over-one b₂ (at + 1) (length row - gap) ∙ ap (λ (t : List ℕ). over t (at + 1) ((length row - gap) ∷ [])) m
         ∙ over-part L (store L b p page₂) p (let w = h .within in omega (arith, w, length-store L b p page₂)) (level ∷ []) (length row ∷ []) behind ((length row - gap) ∷ [])
         (page-stored L b p page₂ long₂ (h .within)) refl (at + 1) (omega (arith, z))
@@ -223,15 +235,18 @@ module _ {e : ℕ} {b : List ℕ} {p : ℕ} (h : WholePage e b p) where
       pub row-count : n ≡ length row
       row-count = wide ∙ counted ∙ sym (length-refs L (pageBytes L b p))
 
-      -- The bytes that are moved stand in the table,
-      pub move-room : (at : ℕ) → at ≡ pageStart (layoutOf e) p → (at + (2 + 3 * from) ≤ at + (2 + 3 * to)) × (at + (2 + 3 * to) + 3 * (n - to) ≤ length b)
-      move-room at z = let w = h .within in let f = h .few in (omega (arith, order), omega (arith, w, f, z, row-count))
+      -- The bytes that are moved stand in the table, and zeros behind them.
+      pub close-room : (at : ℕ) → at ≡ pageStart (layoutOf e) p → at + (2 + 3 * from) + 3 * gap + 3 * (n - to) + 3 * (e - n) ≤ length b
+      close-room at z = let w = h .within in let f = h .few in omega (arith, w, f, z, order, inside, row-count)
 
-      -- and so do those that are cleared.
-      pub clear-room : (at : ℕ) (b₁ : List ℕ) → at ≡ pageStart (layoutOf e) p → length b₁ ≡ length b → at + (2 + 3 * (n - gap)) + 3 * gap ≤ length b₁
-      clear-room at b₁ z l = let w = h .within in let f = h .few in omega (arith, w, f, z, l, row-count)
+      pub close-zeros : (at : ℕ) → at ≡ pageStart (layoutOf e) p → take (3 * (e - n)) (drop (at + (2 + 3 * from) + 3 * gap + 3 * (n - to)) b) ≡ replicate (3 * (e - n)) 0
+      close-zeros at z =
+          let f = h .few in
+          let place : at + (2 + 3 * from) + 3 * gap + 3 * (n - to) ≡ pageStart L p + (2 + 3 * length row) = omega (arith, z, order, inside, row-count) in
+          ap₂ (λ (i k : ℕ). take (3 * (e - i)) (drop k b)) row-count place ∙ spare-bytes ∙ ap (λ (i : ℕ). replicate (3 * (e - i)) 0) (sym row-count)
 
-      -- The entries behind are moved down, the rest is cleared, and the count is set.
-      pub entries-closed : (at : ℕ) (b₁ b₂ : List ℕ) → at ≡ pageStart (layoutOf e) p → b₁ ≡ over b (at + (2 + 3 * from)) (take (3 * (n - to)) (drop (at + (2 + 3 * to)) b))
-          → b₂ ≡ over b₁ (at + (2 + 3 * (n - gap))) (replicate (3 * gap) 0) → set b₂ (at + 1) (n - gap) ≡ withRow e b p (without from to row)
-      entries-closed at b₁ b₂ z g g₂ = rw row-count (entries-out at b₁ b₂ z (rw row-count at g) (rw row-count at g₂))
+      -- The entries behind are moved down, zeros behind them, and the count is set.
+      pub entries-closed : (at : ℕ) (b₂ : List ℕ) → at ≡ pageStart (layoutOf e) p
+          → b₂ ≡ over b (at + (2 + 3 * from)) (take (3 * (n - to)) (drop (at + (2 + 3 * from) + 3 * gap) b) ++ replicate (3 * gap) 0)
+          → set b₂ (at + 1) (n - gap) ≡ withRow e b p (without from to row)
+      entries-closed at b₂ z g = rw row-count (entries-out at b₂ z (rw row-count at g))

@@ -1,11 +1,12 @@
 -- A page's bytes changed in part: those of one entry, or of the entries behind some that go (01, "Pages"). Assumes nothing.
 use mathlib.Core.Path.{_≡_, sym, ap, ap₂, _∙_}
 use mathlib.Core.List.{List, _++_, append-assoc}
-use Prim.Native.Nat.{ℕ, _+_}
+use Prim.Native.Nat.{ℕ, _+_, _-_, _≤_}
 use native.Mathlib.Omega.{arith}
-use lib.ListN.{length, take, drop, length-append, length-take, length-drop, take-append-drop}
-use lib.Seq.{sets-eq, take-append-seam, drop-at, drop-drop, length-take-le}
+use lib.ListN.{length, take, drop, replicate, length-replicate, replicate-append-replicate, length-append, length-take, length-drop, take-append-drop}
+use lib.Seq.{sets-eq, take-add, take-take, take-at, take-append-seam, drop-at, drop-drop, length-take-le}
 use Rattle.byte_moves.specs.Over.{over}
+use Rattle.byte_moves.proofs.OverLaws.{over-append}
 use Rattle.index_table.specs.Layout.{Layout, pageSize, pageStart, Within, pageBytes, store}
 
 -- ---- lists
@@ -26,6 +27,30 @@ module _ {A : Type 0} where
       (append-assoc (take i l) (take n (drop i l)) (drop (i + n) l)
       ∙ ap (λ (t : List A). take i l ++ (take n (drop i l) ++ t)) (sym (drop-drop n i l))
       ∙ ap (λ (t : List A). take i l ++ t) (take-append-drop n (drop i l)) ∙ take-append-drop i l)
+
+-- ---- bytes moved down, and zeros behind them
+
+fewer-zeros : (n m : ℕ) → n ≤ m → _≡_ {A = List ℕ} (take n (replicate m 0)) (replicate n 0)
+fewer-zeros n m h =
+    let e : m ≡ n + (m - n) = omega arith in
+    ap (λ (k : ℕ). take n (replicate k 0)) e ∙ ap (take n) (sym (replicate-append-replicate n (m - n) 0)) ∙ take-at (replicate n 0) (replicate (m - n) 0) n (length-replicate n 0)
+
+module _ (b : List ℕ) (at gone n : ℕ) where
+  abbrev tail : List ℕ
+  tail = take n (drop (at + gone) b)
+
+  -- Zeros that stand behind them move along,
+  pub zeros-along : (free : ℕ) → gone ≤ free → take free (drop (at + gone + n) b) ≡ replicate free 0 → take (n + gone) (drop (at + gone) b) ≡ tail ++ replicate gone 0
+  zeros-along free h z =
+      take-add n gone (drop (at + gone) b)
+      ∙ ap (λ (t : List ℕ). tail ++ t)
+      (ap (take gone) (drop-drop n (at + gone) b) ∙ sym (take-take gone free (drop (at + gone + n) b) h) ∙ ap (take gone) z ∙ fewer-zeros gone free h)
+
+  -- or zeros are written.
+  pub zeros-written : at + gone + n ≤ length b → {b₁ b₂ : List ℕ} → b₁ ≡ over b at tail → b₂ ≡ over b₁ (at + n) (replicate gone 0) → b₂ ≡ over b at (tail ++ replicate gone 0)
+  zeros-written h {b₁} {b₂} g k =
+      let long : length tail ≡ n = length-take-le n (drop (at + gone) b) (omega (arith, length-drop (at + gone) b)) in
+      k ∙ ap₂ (λ (t : List ℕ) (i : ℕ). over t (at + i) (replicate gone 0)) g (sym long) ∙ over-append b at tail (replicate gone 0)
 
 -- ---- a page's bytes
 

@@ -1,7 +1,8 @@
 // Pages changed within their own bytes: an entry replaced, entries taken out.
 ghost use mathlib.Core.Path.{_≡_};
+ghost use mathlib.Core.List.{_++_};
 ghost use Prim.Native.Nat.{_+_, _*_, _≤_, _<_};
-ghost use lib.ListN.{length, replicate, set};
+ghost use lib.ListN.{length, take, drop, replicate, set};
 ghost use Rattle.byte_moves.specs.Over.{over};
 ghost use Rattle.index_table.specs.Layout.{layoutOf};
 ghost use Rattle.index_table.specs.Pages.{pagesAt};
@@ -23,16 +24,18 @@ pub fn replace_entry(index: &mut [u8], e: u8, page: PageNo, i: usize, d: u8, p: 
     write_entry(index, at + (2 + 3 * i), d, p);
 }
 
-// Zeros for n entries from a place on; most often there is one.
-fn clear_entries(index: &mut [u8], at: usize, n: usize)
-    requires { ⌜ (at + 3 * n ≤ length (now index)) × (n ≤ 255) ⌝ }
-    ensures { λ r. ⌜ now (index .exit) ≡ over (now (index .entry)) at (replicate (3 * n) 0) ⌝ }
+// n bytes moved down by `gone` to a place, and as many zeros behind them as they left. Of zeros that stand behind them there are `free`: where these
+// are enough, they move along.
+fn close_up(index: &mut [u8], at: usize, gone: usize, n: usize, free: usize)
+    requires { ⌜ (at + gone + n + free ≤ length (now index)) × (take free (drop (at + gone + n) (now index)) ≡ replicate free 0) ⌝ }
+    ensures { λ r. ⌜ now (index .exit) ≡ over (now (index .entry)) at (take n (drop (at + gone) (now (index .entry))) ++ replicate gone 0) ⌝ }
 {
-    if n == 1 {
-        write_entry(index, at, 0, 0);
+    if gone <= free {
+        move_down(index, at, at + gone, n + gone);
         return;
     }
-    clear(index, at, 3 * n);
+    move_down(index, at, at + gone, n);
+    clear(index, at + n, gone);
 }
 
 // The entries of a page from one place up to another taken out; those behind them move down, and the bytes left over are zero.
@@ -43,7 +46,7 @@ pub fn close(index: &mut [u8], e: u8, page: PageNo, from: usize, to: usize)
     let at = page_start(e, page);
     let n = wide(count(index, e, page));
     let gone = to - from;
-    move_down(index, at + (2 + 3 * from), at + (2 + 3 * to), 3 * (n - to));
-    clear_entries(index, at + (2 + 3 * (n - gone)), gone);
+    let free = wide(e) - n;
+    close_up(index, at + (2 + 3 * from), 3 * gone, 3 * (n - to), 3 * free);
     index[at + 1] = (n - gone) as u8;
 }

@@ -1,11 +1,12 @@
 -- The key's bits from a position on, as one number. Assumes nothing.
-use mathlib.Core.Path.{_≡_, sym, _∙_}
+use mathlib.Core.Path.{_≡_, sym, ap, subst, _∙_}
 use mathlib.Core.Logic.{_⊎_, inl, inr}
 use Prim.Native.Nat.{ℕ, suc, _+_, _-_, _%_, _^_, _≤_, _<_}
 use native.Mathlib.Omega.{arith}
 use native.Mathlib.Nat.{mod-lt, eq-zero-or-pos, lt-of-lt-of-le, mul-comm, two-mul, pow-suc}
+use lib.Count.{leadingZeros, leading-of-zero}
 use lib.Pow.{pow-pos, pow-mono}
-use borrow.Author.Tests.{le-leb, lt-leb, eq-eqb, ne-eqb}
+use borrow.Author.Tests.{le-leb, lt-leb}
 use Rattle.table_search.specs.Places.{ahead, firstPosition, NextPosition}
 use Rattle.table_search.proofs.NextPositions.{next-none, next-some}
 
@@ -53,5 +54,7 @@ pub next-first : (w key p rest : ℕ) → w ≤ 64 → p ≤ w → rest ≡ key 
 next-first w key p rest wide h e = go (eq-zero-or-pos rest)
   where
     go : (rest ≡ 0) ⊎ (0 < rest) → NextPosition w key p (firstPosition w rest)
-    go (inl z) = rw (eq-eqb rest 0 z) (next-none w key p h (sym e ∙ z))
-    go (inr z) = rw (ne-eqb rest 0 (λ q. omega arith)) (next-some w key p rest wide h e (λ q. omega arith))
+    go (inl z) =
+        let none : w + 1 ≡ firstPosition w rest = omega (arith, ap (leadingZeros 64) z ∙ leading-of-zero 64) in
+        subst (NextPosition w key p) none (next-none w key p h (sym e ∙ z))
+    go (inr z) = next-some w key p rest wide h e (λ q. omega arith)

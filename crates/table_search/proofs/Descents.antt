@@ -21,12 +21,11 @@ use Rattle.page_tree.proofs.WalkPlaces.{positionsAfter, Stops, find-at}
 use Rattle.index_table.specs.Layout.{Ref, Within, layoutOf, pageBytes, refAt}
 use Rattle.index_table.specs.Pages.{pagesAt, nodeAt, recordOf}
 use Rattle.index_table.specs.Soundness.{SoundBelow}
-use Rattle.index_table.specs.declared.layout.PageNo.{PageNo}
 use Rattle.index_table.proofs.PageBytes.{within-table}
 use Rattle.index_table.proofs.SoundNodes.{sound-depths, sound-nodes}
 use Rattle.table_search.specs.declared.Spot.{Spot}
 use Rattle.table_search.specs.declared.Leaf.{Leaf}
-use Rattle.table_search.specs.Places.{leftFrom, depthOf, SeekPre, Stopped, DescendPre, Way, Descended}
+use Rattle.table_search.specs.Places.{leftFrom, depthOf, SeekPre, Stopped, Ends, DescendPre, Way, Descended}
 use Rattle.table_search.proofs.Stops.{read-entry}
 
 -- The depths of what stands above level 0 are depths of level 0.
@@ -159,17 +158,17 @@ module _ {b : List ℕ} {e P n page w key position : ℕ} (pre : DescendPre b e 
     descend-step = descend-walk (λ bs t x xs. findBelow n bs t x) nowhere
 
 -- On level 0 the entry is the answer.
-pub descend-leaf : {b : List ℕ} {e P page w key position τ : ℕ} (n : ℕ) (pre : DescendPre b e P n page w key position) (s : Spot) → Stopped w key position τ (pagesAt (layoutOf e) b page) s → n ≡ 0
-    → (own : PageNo) → own .0 ≡ page → (d p : ℕ) → d ≡ refAt (layoutOf e) (pageBytes (layoutOf e) b page) (s .at) .0 → p ≡ refAt (layoutOf e) (pageBytes (layoutOf e) b page) (s .at) .1 → p ≤ 65535
-    → Descended w key position τ n (pagesAt (layoutOf e) b) page (record { page = own; at = s .at; depth = d; pointer = p; position = s .position; trail = s .trail; before = τ })
+pub descend-leaf : {b : List ℕ} {e P page w key position τ : ℕ} (n : ℕ) (pre : DescendPre b e P n page w key position) → n ≡ 0
+    → (r : Leaf) → Ends w key position τ page (pagesAt (layoutOf e) b page) r → r .pointer ≤ 65535 → Descended w key position τ n (pagesAt (layoutOf e) b) page r
 unfolding nodeAt
-descend-leaf (suc n) pre s stop z own ho d p hd hp l = absurd (omega arith)
-descend-leaf {b} {e} {P} {page} {w} {key} {position} {τ} zero pre s stop z own ho d p hd hp l =
-    let q : refAt (layoutOf e) (pageBytes (layoutOf e) b page) (s .at) ≡ getD (pagesAt (layoutOf e) b page) (s .at) (0, 0) = read-entry (layoutOf e) b page (s .at) (stop .inside) in
+descend-leaf (suc n) pre z r ends h = absurd (omega arith)
+descend-leaf {b} {e} {P} {page} {w} {key} {position} {τ} zero pre z r ends h =
     record {
-      found = descend-step pre s stop ∙ ap (λ (x : Ref). (leftFrom w key (s .position), s .trail, entry (x .0) (recordOf 65535 (x .1)))) (sym q ∙ λ i. (sym hd i, sym hp i));
-      pointer-high = l;
-      way = record { page-is = ho; place = stop; entry-is = sym q ∙ λ i. (sym hd i, sym hp i); before-is = refl };
+      found =
+          descend-step pre (record { at = r .at; position = r .position; trail = r .trail }) (ends .place)
+          ∙ ap (λ (x : Ref). (leftFrom w key (r .position), r .trail, entry (x .0) (recordOf 65535 (x .1)))) (ends .entry-is);
+      pointer-high = h;
+      way = ends;
     }
 
 -- Above it, the child is a page of the way down, and what is found below it is what is found.

@@ -1,6 +1,7 @@
 pub mod NextPositions
 pub mod Stops
 pub mod BitsAhead
+pub mod LastBits
 pub mod PageDiscriminators
 pub mod PageSearches
 pub mod Descents

@@ -27,7 +27,7 @@ drop-bits (suc p) (suc w) x h =
     drop-bits p w x (omega arith) ∙ ap (λ (n : ℕ). bits n x) e
 
 -- The last n + 1 bits of a number are one bit and the last n.
-last-bit : (x n : ℕ) → x % 2 ^ suc n ≡ (x / 2 ^ n % 2) * 2 ^ n + x % 2 ^ n
+pub last-bit : (x n : ℕ) → x % 2 ^ suc n ≡ (x / 2 ^ n % 2) * 2 ^ n + x % 2 ^ n
 last-bit x n = ap (λ (m : ℕ). x % 2 ^ m) (sym (one-add n)) ∙ mod-pow-add x 1 n
 
 -- A bit that is clear is passed over; one that is set is a position.

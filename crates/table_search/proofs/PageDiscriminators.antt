@@ -5,13 +5,15 @@ use Prim.Native.Nat.{ℕ, suc, _+_, _-_, _*_, _/_, _%_, _^_, _≤_, _<_}
 use native.Mathlib.Omega.{arith}
 use native.Mathlib.Nat.{mod-lt, eq-or-lt-of-le, eq-zero-or-pos, lt-of-lt-of-le, lt-of-not-le, not-le-of-lt, suc-mul, one-mul, add-mul, mul-assoc, zero-mul, zero-div, div-eq-of-lt}
 use lib.Bits.{bitOr, or-add-and, and-mask}
-use lib.Count.{leadingZeros, leading-top}
+use lib.Count.{leadingZeros, trailingZeros, leading-top}
 use lib.Pow.{pow-pos, pow-mono, pow-add, mod-pow-add, split, high, low, shl-shr, shr-shr, shr-mono, ones-lt, ones-split, suc-ones}
-use borrow.Author.Tests.{eq-eqb, ne-eqb}
-use Rattle.leaf_list.proofs.KeyLaws.{first-difference}
-use Rattle.table_search.specs.Places.{ahead, lastBefore, differAt, Passed}
+use borrow.Author.Tests.{ne-eqb}
+use Rattle.leaf_list.proofs.KeyLaws.{first-difference, same-key}
+use Rattle.leaf_list.specs.Keys.{bits, firstDifference}
+use Rattle.table_search.specs.Places.{ahead, lastBefore, lastPosition, Passed}
 use Rattle.table_search.proofs.NextPositions.{next-none, next-some}
 use Rattle.table_search.proofs.BitsAhead.{order, double, some-ahead, none-ahead, ahead-under}
+use Rattle.table_search.proofs.LastBits.{zeros-behind}
 use Rattle.table_search.proofs.Stops.{passed-kept, passed-next}
 
 -- The number a has a one at position b, where D has none, and they agree before it; or b is w + 1, and they are the same.
@@ -199,11 +201,17 @@ module _ (w key b₀ b D : ℕ) (wide : w ≤ 64) (begun : b₀ ≤ b) where
       go (inr l) at = deeper d inside l clear at
 
 -- The position is the first at which they differ.
-pub apart-position : (w a D b : ℕ) → 0 < b → Apart w a D b → differAt w a D ≡ b
-apart-position w a D b pos (inl h) = rw (eq-eqb a D (sym (h .1))) (sym (h .0))
+pub apart-position : (w a D b : ℕ) → 0 < b → Apart w a D b → firstDifference 0 (bits w a) (bits w D) ≡ b
+apart-position w a D b pos (inl h) = ap (λ (n : ℕ). firstDifference 0 (bits w a) (bits w n)) (h .1) ∙ same-key w 0 a ∙ omega (arith, h .0)
 apart-position w a D b pos (inr h) =
-    rw (ne-eqb a D (λ e. omega (arith, h .1, ap (λ (n : ℕ). n / 2 ^ (w - b)) e)))
-    (first-difference w 0 a D (w - b) (omega (arith, h .0)) (h .2) (λ e. omega (arith, h .1, e)) ∙ omega (arith, h .0))
+    first-difference w 0 a D (w - b) (omega (arith, h .0)) (h .2) (λ e. omega (arith, h .1, e)) ∙ omega (arith, h .0)
+
+-- The last one-bit of the discriminator that follows is the entry's.
+pub last-next : (w d D τ : ℕ) → w ≤ 64 → 0 < d → d ≤ w → D / 2 ^ (w - d) % 2 ≡ 0 → lastPosition w τ (suc (lastBefore w d D)) ≡ d
+last-next w d D τ wide pos inside clear =
+    let zeros : trailingZeros 64 (suc (lastBefore w d D)) ≡ w - d
+    = ap (trailingZeros 64) (disc-next w d D) ∙ zeros-behind 64 (w - d) (suc (D / 2 ^ (w - d))) (omega arith) (omega (arith, clear)) in
+    rw (ne-eqb (suc (lastBefore w d D)) 0 (λ e. omega (arith, e))) (omega (arith, zeros))
 
 -- ---- as the code computes it
 

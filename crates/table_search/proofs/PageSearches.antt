@@ -1,5 +1,5 @@
 -- The search of a page's row by the discriminators of its own entries. Assumes nothing.
-use mathlib.Core.Path.{_≡_, sym, ap, subst, _∙_}
+use mathlib.Core.Path.{_≡_, refl, sym, ap, subst, _∙_}
 use mathlib.Core.Logic.{_⊎_, inl, inr}
 use mathlib.Core.List.{List, _∷_}
 use Prim.Native.Nat.{ℕ, suc, _+_, _-_, _/_, _%_, _^_, _≤_, _<_}
@@ -9,12 +9,13 @@ use native.Mathlib.Numerals.{add-one}
 use lib.ListN.{length, getD, drop}
 use lib.Pow.{pow-pos}
 use lib.Seq.{drop-cons}
+use Rattle.leaf_list.specs.Keys.{bits, firstDifference}
 use Rattle.leaf_list.specs.Depths.{Unmatched, Unrepeated}
 use Rattle.index_table.specs.Layout.{Ref}
-use Rattle.table_search.specs.Places.{ahead, lastBefore, differAt, depthBefore, depthOf, Stopped}
+use Rattle.table_search.specs.Places.{ahead, lastBefore, lastPosition, depthOf, Stopped}
 use Rattle.table_search.proofs.BitsAhead.{order, ahead-low}
-use Rattle.table_search.proofs.PageDiscriminators.{Apart, next-before, next-behind, disc-rises, next-fits, apart-start, apart-stop, apart-pass, apart-next, apart-position}
-use Rattle.table_search.proofs.Stops.{Seeking, seeking-start, seeking-more, seeking-stop}
+use Rattle.table_search.proofs.PageDiscriminators.{Apart, next-before, next-behind, disc-rises, next-fits, apart-start, apart-stop, apart-pass, apart-next, apart-position, last-next}
+use Rattle.table_search.proofs.Stops.{Seeking, depthBefore, depth-before, seeking-start, seeking-more, seeking-stop}
 
 -- The search before entry i, with the discriminator D of the entries before it: a bit that D has is the depth of one that no shallower one followed.
 pub record SeekingBy (w key b₀ : ℕ) (row : List Ref) (a D i : ℕ) : Type 0 where
@@ -23,6 +24,7 @@ pub record SeekingBy (w key b₀ : ℕ) (row : List Ref) (a D i : ℕ) : Type 0 
   pub seeking : Seeking w key b₀ row position i
   pub apart : Apart w a D position
   pub below : D ≤ a
+  pub trailing : (τ : ℕ) → lastPosition w τ D ≡ depthBefore τ row i
   pub unclosed : (z : ℕ) → z ≤ w → D / 2 ^ (w - z) % 2 ≡ 1 → Unmatched depthOf z (drop i row)
   pub unrepeated : Unrepeated depthOf (drop i row)
 
@@ -47,6 +49,7 @@ module _ {w key b₀ : ℕ} {row : List Ref} (wide : w ≤ 64) (pos : 0 < b₀) 
         seeking = seeking-start w key b₀ row some high;
         apart = subst (λ (n : ℕ). Apart w n 0 b₀) (sym e) (apart-start w key b₀ high);
         below = omega arith;
+        trailing = λ τ. refl;
         unclosed = λ z h q. absurd (omega (arith, zero-div (2 ^ (w - z)), q));
         unrepeated = u;
       }
@@ -111,6 +114,12 @@ module _ {w key b₀ : ℕ} {row : List Ref} (wide : w ≤ 64) (pos : 0 < b₀) 
           go (inl l) = before (eq-or-lt-of-le l)
           go (inr l) = absurd (omega (arith, q, next-behind w d D (w - z) (omega arith)))
 
+      -- Its depth is before the next.
+      trailing-next : 0 < d → (τ : ℕ) → lastPosition w τ (lastBefore w d D + 1) ≡ depthBefore τ row (i + 1)
+      trailing-next h τ =
+          ap (lastPosition w τ) (add-one (lastBefore w d D)) ∙ last-next w d D τ wide h low clear ∙ is
+          ∙ sym (ap (depthBefore τ row) (add-one i) ∙ depth-before τ row i (s .seeking .inside))
+
       -- One entry more is passed.
       pub seek-goes : i + 1 < length row → lastBefore w d D < a → SeekingBy w key b₀ row a (lastBefore w d D + 1) (i + 1)
       seek-goes h l =
@@ -123,6 +132,7 @@ module _ {w key b₀ : ℕ} {row : List Ref} (wide : w ≤ 64) (pos : 0 < b₀) 
             seeking = seeking-more w key b₀ row b i d (n .position) (s .seeking) h is passes (n .passed);
             apart = subst (λ (m : ℕ). Apart w m (lastBefore w d D + 1) (n .position)) (sym (s .bits-are)) (subst (λ (m : ℕ). Apart w (ahead w key b₀) m (n .position)) (sym more) (n .apart));
             below = omega (arith, l);
+            trailing = trailing-next (omega (arith, pos, s .seeking .rise, passes));
             unclosed = λ z g q. unclosed-next z g (ap (λ (m : ℕ). m / 2 ^ (w - z) % 2) (sym more) ∙ q);
             unrepeated = behind .1;
           }
@@ -155,7 +165,7 @@ module _ {w key b₀ : ℕ} {row : List Ref} (wide : w ≤ 64) (pos : 0 < b₀) 
         rw same (halt-here (seek-goes s low is h (omega (arith, same))) c-low c-is (omega (arith, second-too)))
 
   -- The position and the depth before are told by what the search carries.
-  pub seek-stops : {a D i τ : ℕ} → Halted w key b₀ row a D i → (p t : ℕ) → p ≡ differAt w a D → t ≡ depthBefore τ row i → Stopped w key b₀ τ row (record { at = i; position = p; trail = t })
+  pub seek-stops : {a D i τ : ℕ} → Halted w key b₀ row a D i → (p t : ℕ) → p ≡ firstDifference 0 (bits w a) (bits w D) → t ≡ lastPosition w τ D → Stopped w key b₀ τ row (record { at = i; position = p; trail = t })
   seek-stops {a} {D} {i} {τ} h p t e f =
       let s = h .by in
-      seeking-stop w key b₀ τ row (s .position) i p t (s .seeking) (e ∙ apart-position w a D (s .position) (omega (arith, pos, s .seeking .rise)) (s .apart)) f (h .stops)
+      seeking-stop w key b₀ τ row (s .position) i p t (s .seeking) (e ∙ apart-position w a D (s .position) (omega (arith, pos, s .seeking .rise)) (s .apart)) (f ∙ s .trailing τ) (h .stops)

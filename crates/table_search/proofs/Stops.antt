@@ -15,7 +15,7 @@ use Rattle.page_tree.proofs.WalkPlaces.{Passes, positionsAfter}
 use Rattle.index_table.specs.Layout.{Ref, Layout, layoutOf, refAt, pageBytes}
 use Rattle.index_table.specs.Pages.{pagesAt}
 use Rattle.index_table.proofs.PageRows.{length-refs, getD-refs}
-use Rattle.table_search.specs.Places.{later, leftFrom, depthBefore, NextPosition, Passed, depthOf, SeekPre, Stopped}
+use Rattle.table_search.specs.Places.{later, leftFrom, NextPosition, Passed, depthOf, SeekPre, Stopped}
 
 -- One entry more is passed.
 passes-snoc : (bs : List ℕ) (b : ℕ) (bs′ : List ℕ) (xs : List Ref) (y : Ref) → Passes depthOf bs xs → positionsAfter depthOf bs xs ≡ b ∷ bs′ → b ≤ y .0
@@ -30,7 +30,11 @@ last-snoc : (τ : ℕ) (xs : List Ref) (y : Ref) → lastDepth depthOf τ (xs ++
 last-snoc τ [] y = refl
 last-snoc τ (x ∷ xs) y = last-snoc (x .0) xs y
 
-depth-before : (τ : ℕ) (row : List Ref) (j : ℕ) → j < length row → depthBefore τ row (suc j) ≡ getD row j (0, 0) .0
+-- The depth before entry i of a row, where τ is the one before the row.
+abbrev pub depthBefore : ℕ → List Ref → ℕ → ℕ
+depthBefore τ row i = lastDepth depthOf τ (take i row)
+
+pub depth-before : (τ : ℕ) (row : List Ref) (j : ℕ) → j < length row → depthBefore τ row (suc j) ≡ getD row j (0, 0) .0
 depth-before τ row j h = ap (lastDepth depthOf τ) (take-suc row j (0, 0) h) ∙ last-snoc τ (take j row) (getD row j (0, 0))
 
 -- The search before entry i: what was passed, and the next position b.
@@ -92,12 +96,3 @@ module _ {b : List ℕ} {e page w key position : ℕ} (i d : ℕ) (pre : SeekPre
 
   pub depth-inner : i + 1 < length (pagesAt (layoutOf e) b page) → d ≡ refAt (layoutOf e) (pageBytes (layoutOf e) b page) i .0 → 0 < d
   depth-inner h q = subst (λ (n : ℕ). 0 < n) (sym (read-depth (omega arith) q .1)) (pre .inner i h)
-
--- The depth before an entry: that before the row, or that of the entry before it.
-pub depth-first : (τ : ℕ) (row : List Ref) (i : ℕ) → i ≡ 0 → τ ≡ depthBefore τ row i
-depth-first τ row i e = ap (depthBefore τ row) (sym e)
-
-pub depth-read : (τ : ℕ) (L : Layout) (b : List ℕ) (p i : ℕ) → (i ≡ 0 → ⊥) → i < length (pagesAt L b p) → refAt L (pageBytes L b p) (i - 1) .0 ≡ depthBefore τ (pagesAt L b p) i
-depth-read τ L b p i z h =
-    let e : suc (i - 1) ≡ i = omega arith in
-    ap (λ (x : Ref). x .0) (read-entry L b p (i - 1) (omega arith)) ∙ sym (depth-before τ (pagesAt L b p) (i - 1) (omega arith)) ∙ ap (depthBefore τ (pagesAt L b p)) e

@@ -4,10 +4,10 @@ use mathlib.Core.Bool.{cond}
 use mathlib.Core.Logic.{_⊎_}
 use mathlib.Core.List.{List, [], _∷_}
 use Prim.Native.Nat.{ℕ, zero, suc, _+_, _-_, _*_, _/_, _%_, _^_, _≤_, _<_}
-use lib.Count.{leadingZeros}
+use lib.Count.{leadingZeros, trailingZeros}
 use lib.Dec.{eqb, leb}
 use lib.ListN.{length, getD, take, drop}
-use Rattle.leaf_list.specs.Keys.{bits, firstDifference}
+use Rattle.leaf_list.specs.Keys.{bits}
 use Rattle.leaf_list.specs.Search.{positions}
 use Rattle.leaf_list.specs.Entries.{entry}
 use Rattle.leaf_list.specs.Depths.{Unrepeated, LeafDepths}
@@ -40,17 +40,17 @@ pub record NextPosition (w key p r : ℕ) : Type 0 where
 abbrev pub ahead : ℕ → ℕ → ℕ → ℕ
 ahead w key b = cond (leb b w) (2 ^ (w - b) + key % 2 ^ (w - b)) 0
 
--- The position of the first of these bits.
+-- The position of the first of these bits; W + 1 where there is none.
 abbrev pub firstPosition : ℕ → ℕ → ℕ
-firstPosition w a = cond (eqb a 0) (w + 1) (leadingZeros 64 a + w - 63)
+firstPosition w a = leadingZeros 64 a + w - 63
 
 -- The last number before the discriminator of an entry of depth d that follows the discriminator D.
 abbrev pub lastBefore : ℕ → ℕ → ℕ → ℕ
 lastBefore w d D = D / 2 ^ (w - d) * 2 ^ (w - d) + (2 ^ (w - d) - 1)
 
--- The first position at which two numbers of w bits differ; W + 1 where they are the same.
-abbrev pub differAt : ℕ → ℕ → ℕ → ℕ
-differAt w a D = cond (eqb a D) (w + 1) (firstDifference 0 (bits w a) (bits w D))
+-- The position of the last one-bit of a number of w bits; τ where there is none.
+abbrev pub lastPosition : ℕ → ℕ → ℕ → ℕ
+lastPosition w τ n = cond (eqb n 0) τ (w - trailingZeros 64 n)
 
 -- The next position once an entry of depth d was passed at the position b.
 pub record Passed (w key b d r : ℕ) : Type 0 where
@@ -75,10 +75,6 @@ pub record SeekPre (b : List ℕ) (e page w key position : ℕ) : Type 0 where
   pub narrow : key < 2 ^ w
   pub low : 0 < position
   pub high : position ≤ w + 1
-
--- The depth before entry i of a row, where τ is the one before the row.
-abbrev pub depthBefore : ℕ → List Ref → ℕ → ℕ
-depthBefore τ row i = lastDepth depthOf τ (take i row)
 
 -- The place where figure 6 stops in a page's row, begun with the position b and the depth τ before: the entries before it are passed, and it is
 -- shallower than the next position or the last.

@@ -1,10 +1,9 @@
 // Search in sound tables: figure 6 from the root down.
 ghost use mathlib.Core.Path.{_≡_};
 ghost use Prim.Native.Nat.{_-_, _%_, _^_, _≤_, _<_};
-ghost use lib.ListN.{length};
 ghost use Rattle.index_table.specs.Layout.{Within, layoutOf};
 ghost use Rattle.index_table.specs.Pages.{pagesAt};
-ghost use Rattle.table_search.specs.Places.{ahead, firstPosition, lastBefore, differAt, depthBefore, NextPosition, SeekPre, Stopped, DescendPre, Descended};
+ghost use Rattle.table_search.specs.Places.{ahead, firstPosition, lastBefore, lastPosition, NextPosition, SeekPre, Stopped, Ends, DescendPre, Descended};
 use index_table::layout::PageNo;
 use index_table::layout::child;
 use index_table::layout::count;
@@ -34,7 +33,7 @@ pub struct Leaf {
 }
 
 // The bits of a key of w bits behind the first p.
-fn last_bits(w: u64, key: u64, p: u64) -> u64
+pub fn last_bits(w: u64, key: u64, p: u64) -> u64
     requires { ⌜ (w ≤ 64) × (p ≤ w) × (key < 2 ^ w) ⌝ }
     ensures { λ r. ⌜ r ≡ key % 2 ^ (w - p) ⌝ }
 {
@@ -49,9 +48,6 @@ fn first_position(w: u64, ahead: u64) -> u64
     requires { ⌜ (w ≤ 64) × (ahead < 2 ^ w) ⌝ }
     ensures { λ r. ⌜ r ≡ firstPosition w ahead ⌝ }
 {
-    if ahead == 0 {
-        return w + 1;
-    }
     u64::leading_zeros(ahead) as u64 + w - 63
 }
 
@@ -84,30 +80,20 @@ fn last_before(w: u64, disc: u64, d: u64) -> u64
     disc | behind
 }
 
-// The first position at which two numbers of w bits differ; w + 1 where they are the same.
-fn differ_at(w: u64, bits: u64, disc: u64) -> u64
-    requires { ⌜ (w ≤ 64) × (bits < 2 ^ w) × (disc < 2 ^ w) ⌝ }
-    ensures { λ r. ⌜ r ≡ differAt w bits disc ⌝ }
+// The position of the last one-bit of a number of w bits; none where there is none.
+fn last_position(w: u64, number: u64, none: u64) -> u64
+    requires { ⌜ (w ≤ 64) × (number < 2 ^ w) ⌝ }
+    ensures { λ r. ⌜ r ≡ lastPosition w none number ⌝ }
 {
-    if bits == disc {
-        return w + 1;
+    if number == 0 {
+        return none;
     }
-    first_difference(w, bits, disc)
-}
-
-// The depth before entry i of a page, where trail is the one before the page.
-fn depth_before(index: &[u8], e: u8, page: PageNo, i: usize, trail: u64) -> u64
-    requires { ⌜ Within (layoutOf e) (now index) (page .0) × (i ≤ e) × (i < length (pagesAt (layoutOf e) (now index) (page .0))) ⌝ }
-    ensures { λ r. ⌜ r ≡ depthBefore trail (pagesAt (layoutOf e) (now (index .entry)) (page .0)) i ⌝ }
-{
-    if i == 0 {
-        return trail;
-    }
-    deep(depth(index, e, page, i - 1))
+    w - u64::trailing_zeros(number) as u64
 }
 
 // The entry of a page at which figure 6 stops, begun at a position and with the depth before. In the page the discriminators of its own entries are
-// made, as if they were the whole list: figure 6 stops at the first that is above the key's bits from that position on.
+// made, as if they were the whole list: figure 6 stops at the first that is above the key's bits from that position on. The one before it differs from
+// them first at the next position, and its last one-bit is the depth of the entry passed last.
 pub fn seek(index: &[u8], e: u8, page: PageNo, w: u64, key: u64, position: u64, trail: u64) -> Spot
     requires { ⌜ SeekPre (now index) e (page .0) w key position ⌝ }
     ensures { λ r. ⌜ Stopped w key position trail (pagesAt (layoutOf e) (now (index .entry)) (page .0)) r ⌝ }
@@ -134,8 +120,26 @@ pub fn seek(index: &[u8], e: u8, page: PageNo, w: u64, key: u64, position: u64, 
     }
     Spot {
         at: i,
-        position: differ_at(w, bits, disc),
-        trail: depth_before(index, e, page, i, trail),
+        position: first_difference(w, bits, disc),
+        trail: last_position(w, disc, trail),
+    }
+}
+
+// The entry of a page of level 0 at which figure 6 stops.
+fn leaf_in(index: &[u8], e: u8, page: PageNo, w: u64, key: u64, position: u64, trail: u64) -> Leaf
+    requires { ⌜ SeekPre (now index) e (page .0) w key position ⌝ }
+    ensures { λ r. ⌜ Ends w key position trail (page .0) (pagesAt (layoutOf e) (now (index .entry)) (page .0)) r × (r .pointer ≤ 65535) ⌝ }
+{
+    let s = seek(index, e, page, w, key, position, trail);
+    let at = s.at;
+    Leaf {
+        page,
+        at,
+        depth: deep(depth(index, e, page, at)),
+        pointer: pointer(index, e, page, at),
+        position: s.position,
+        trail: s.trail,
+        before: trail,
     }
 }
 
@@ -155,20 +159,11 @@ pub fn descend(
     requires { ⌜ DescendPre (now index) e pages level (page .0) w key position ⌝ }
     ensures { λ r. ⌜ Descended w key position trail level (pagesAt (layoutOf e) (now (index .entry))) (page .0) r ⌝ }
 {
-    let s = seek(index, e, page, w, key, position, trail);
-    let at = s.at;
     if level == 0 {
-        return Leaf {
-            page,
-            at,
-            depth: deep(depth(index, e, page, at)),
-            pointer: pointer(index, e, page, at),
-            position: s.position,
-            trail: s.trail,
-            before: trail,
-        };
+        return leaf_in(index, e, page, w, key, position, trail);
     }
-    let below = child(index, e, page, at);
+    let s = seek(index, e, page, w, key, position, trail);
+    let below = child(index, e, page, s.at);
     descend(
         &index[0..],
         e,

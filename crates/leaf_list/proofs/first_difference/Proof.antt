@@ -7,7 +7,7 @@ use Rattle.leaf_list.proofs.first_difference.Statement.{statement}
 use Rattle.leaf_list.proofs.first_difference.Tie as tie
 
 returns : tie.Need-returns
-returns c = difference-by-zeros _ _ _ (c .pre .0) (c .pre .1) (c .pre .2) (c .pre .3)
+returns c = difference-by-zeros _ _ _ (c .pre .0) (c .pre .1) (c .pre .2)
 
 cast-result : tie.Need-cast-result
 cast-result c = omega (arith, leading-le 64 (bitXor (c .args .a) (c .args .b)))

@@ -16,9 +16,7 @@ use Rattle.table_search.proofs.descend.Reads as descend
 use Rattle.table_search.proofs.descend.Kinds as descend-kinds
 use Rattle.table_search.proofs.+descend.Lts-descend as descend-lts
 use Rattle.index_table.proofs.layout.child.Reads as child-reads
-use Rattle.index_table.proofs.layout.depth.Reads as depth-reads
-use Rattle.index_table.proofs.layout.pointer.Reads as pointer-reads
-use Rattle.index_table.proofs.layout.deep.Reads as deep-reads
+use Rattle.table_search.proofs.leaf_in.Reads as leaf-in-reads
 use Rattle.table_search.proofs.seek.Reads as seek-reads
 use Rattle.table_search.proofs.+descend.{statement}
 use Rattle.table_search.proofs.+descend.Tie.{close}
@@ -39,41 +37,27 @@ descend-below t = and 1 descend-kinds.ps (falls 1 descend-kinds.ps _<_ μ-descen
 -- What the functions called ask and promise, this one for lower levels.
 abbrev descend-claims : ℕ → descend-lts.Claims
 descend-claims t = (
+  leaf-in-reads.Asked,
+  leaf-in-reads.Learnt,
   seek-reads.Asked,
   seek-reads.Learnt,
-  depth-reads.Asked,
-  depth-reads.Learnt,
-  deep-reads.Asked,
-  deep-reads.Learnt,
-  pointer-reads.Asked,
-  pointer-reads.Learnt,
   child-reads.Asked,
   child-reads.Learnt,
   descend-below t,
   descend.Post,
 )
 
-descend-seek-requires : (t : ℕ) → descend-lts.Need-seek-requires (descend-claims t) (descend-at t) descend.Post
-descend-seek-requires t c κs = descend-seek (c .before .pre .1)
-
-descend-depth-requires : (t : ℕ) → descend-lts.Need-depth-requires (descend-claims t) (descend-at t) descend.Post
-descend-depth-requires t c κs = (descend-within (c .before .before .before .pre .1), descend-inside (c .before .before .before .pre .1) _ (c .before .seek .ensures))
-
-descend-deep-requires : (t : ℕ) → descend-lts.Need-deep-requires (descend-claims t) (descend-at t) descend.Post
-descend-deep-requires t c κs = search needs
-
-descend-pointer-requires : (t : ℕ) → descend-lts.Need-pointer-requires (descend-claims t) (descend-at t) descend.Post
-descend-pointer-requires t c κs =
-    let at = c .before .before .before in
-    (descend-within (at .before .before .pre .1), descend-inside (at .before .before .pre .1) _ (at .seek .ensures))
+descend-leaf-in-requires : (t : ℕ) → descend-lts.Need-leaf-in-requires (descend-claims t) (descend-at t) descend.Post
+descend-leaf-in-requires t c κs = descend-seek (c .before .before .pre .1)
 
 descend-returns : (t : ℕ) → descend-lts.Need-returns (descend-claims t) (descend-at t) descend.Post
-descend-returns t c =
-    let at = c .before .before .before .before in
-    descend-leaf _ (at .before .before .pre .1) _ (at .seek .ensures) (c .before .before .before .if1 .taken) _ refl _ _ (c .before .deep .ensures ∙ c .before .before .depth .ensures) (c .pointer .ensures .0) (c .pointer .ensures .1)
+descend-returns t c = descend-leaf _ (c .before .before .before .pre .1) (c .before .if1 .taken) _ (c .leaf-in .ensures .0) (c .leaf-in .ensures .1)
+
+descend-seek-requires : (t : ℕ) → descend-lts.Need-seek-requires (descend-claims t) (descend-at t) descend.Post
+descend-seek-requires t c κs = descend-seek (c .before .before .pre .1)
 
 descend-child-requires : (t : ℕ) → descend-lts.Need-child-requires (descend-claims t) (descend-at t) descend.Post
-descend-child-requires t c κs = (descend-within (c .before .before .before .pre .1), descend-inside (c .before .before .before .pre .1) _ (c .before .seek .ensures))
+descend-child-requires t c κs = (descend-within (c .before .before .before .pre .1), descend-inside (c .before .before .before .pre .1) _ (c .seek .ensures))
 
 descend-sub-descend : (t : ℕ) → descend-lts.Need-sub-descend (descend-claims t) (descend-at t) descend.Post
 descend-sub-descend t c = search needs
@@ -89,18 +73,18 @@ descend-sub-descend-2 t c = search needs
 
 descend-descend-requires : (t : ℕ) → descend-lts.Need-descend-requires (descend-claims t) (descend-at t) descend.Post
 descend-descend-requires t c κs =
-    let at = c .before .before .before in
-    let start = at .before .before in (
+    let at = c .before .before in
+    let start = at .before .before .before in (
       omega (arith, start .pre .0),
       subst (λ (b : List ℕ). DescendPre b (start .args .e) (start .args .pages) (start .args .level - 1) (c .before .child .result .0) (start .args .w) (start .args .key) (at .seek .result .position)) (sym (whole (start .args .index .now)))
-          (descend-down _ (c .before .before .if1 .left) (start .pre .1) _ (at .seek .ensures) _ (c .before .child .ensures)),
+          (descend-down _ (at .before .if1 .left) (start .pre .1) _ (at .seek .ensures) _ (c .before .child .ensures)),
     )
 
 descend-returns-2 : (t : ℕ) → descend-lts.Need-returns-2 (descend-claims t) (descend-at t) descend.Post
 descend-returns-2 t c =
-    let at = c .before .before .before .before in
-    let start = at .before .before in
-    descend-up _ (c .before .before .before .if1 .left) (start .pre .1) _ (at .seek .ensures) _ (c .before .before .child .ensures) _
+    let at = c .before .before .before in
+    let start = at .before .before .before in
+    descend-up _ (at .before .if1 .left) (start .pre .1) _ (at .seek .ensures) _ (c .before .before .child .ensures) _
     (subst (λ (b : List ℕ). Descended (start .args .w) (start .args .key) (at .seek .result .position) (at .seek .result .trail) (start .args .level - 1) (pagesAt (layoutOf (start .args .e)) b) (c .before .before .child .result .0) (c .descend .result)) (whole (start .args .index .now))
     (c .descend .ensures))
 
@@ -108,11 +92,9 @@ pub +descend-spec : {M : Type 1} → statement M
 +descend-spec = close μ-descend λ t. descend-lts.spec (descend-claims t)
     (descend-at t)
     descend.Post
-    (descend-seek-requires t)
-    (descend-depth-requires t)
-    (descend-deep-requires t)
-    (descend-pointer-requires t)
+    (descend-leaf-in-requires t)
     (descend-returns t)
+    (descend-seek-requires t)
     (descend-child-requires t)
     (descend-sub-descend t)
     (descend-part-descend-start t)

@@ -147,21 +147,21 @@ halted c =
     (λ x. ended (halt-last (pre .width) (pre .low) (inv .1) (omega (arith, inv .0, x .0 .left))) (x .1) (x .2)))
     (c .if2 .came)
 
-differ-at-requires : tie.Need-differ-at-requires Inv-loop μ-loop
-differ-at-requires c κs =
+first-difference-requires : tie.Need-first-difference-requires Inv-loop μ-loop
+first-difference-requires c κs =
     let pre = c .before .before .before .before .before .before .before .pre in
     (pre .width, bits-low (pre .width) (pre .low) (halted c .by), disc-low (pre .width) (pre .low) (halted c .by))
 
-depth-before-requires : tie.Need-depth-before-requires Inv-loop μ-loop
-depth-before-requires c κs =
+last-position-requires : tie.Need-last-position-requires Inv-loop μ-loop
+last-position-requires c κs =
     let pre = c .before .before .before .before .before .before .before .before .pre in
-    (pre .within, omega (arith, pre .few, halted (c .before) .by .seeking .inside), halted (c .before) .by .seeking .inside)
+    (pre .width, disc-low (pre .width) (pre .low) (halted (c .before) .by))
 
 returns : tie.Need-returns Inv-loop μ-loop
 returns c =
     let at = c .before .before in
     let pre = at .before .before .before .before .before .before .before .pre in
-    seek-stops (pre .width) (pre .low) (halted at) _ _ (c .before .differ-at .ensures) (c .depth-before .ensures)
+    seek-stops (pre .width) (pre .low) (halted at) _ _ (c .before .first-difference .ensures .0) (c .last-position .ensures)
 
 pub seek-spec : {M : Type 1} → statement M
 seek-spec =
@@ -192,6 +192,6 @@ seek-spec =
     last-before-requires-3
     add-disc-2
     add-i-2
-    differ-at-requires
-    depth-before-requires
+    first-difference-requires
+    last-position-requires
     returns)
