@@ -1,4 +1,4 @@
-//! Links the static library as benches/run has put it.
+//! Links the static library, and the copy that checks nothing, as benches/run has put them.
 
 use std::path::Path;
 
@@ -7,5 +7,6 @@ fn main() {
     let archives = root.join("target/benches");
     println!("cargo:rustc-link-search=native={}", archives.display());
     println!("cargo:rustc-link-lib=static=tag_index");
+    println!("cargo:rustc-link-lib=static=unchecked");
     println!("cargo:rerun-if-changed={}", archives.display());
 }

@@ -1,7 +1,7 @@
 //! The measures of one herd that is changed: keys are put on and taken off again.
 
 use crate::herd::Herd;
-use crate::library::{check, off, on};
+use crate::library::{check, off, on, unchecked, Answer};
 use crate::rounds::{median, quiet_rounds, time, together, Beside, LOOKED_FOR, TESTED};
 use model::random::Random;
 use model::table::Tables;
@@ -9,12 +9,9 @@ use std::collections::BTreeMap;
 use std::hint::black_box;
 use std::time::Duration;
 
-/// How many inserts of the map are timed together, and then as many removes: few
-/// beside the smallest herd.
+/// How many calls without a check, or inserts of the map, are timed together, and
+/// then as many that take the keys off again: few beside the smallest herd.
 const IN_A_ROW: usize = 16;
-
-/// How often that is done in a round.
-const ROWS: usize = 16;
 
 /// After so many rounds the tables are those of the start again.
 const SAME_TABLES: usize = 64;
@@ -27,7 +24,7 @@ struct Bench {
     map: BTreeMap<u64, u32>,
     /// Keys to put on, all different and none held.
     keys: Vec<u64>,
-    /// The record that is free.
+    /// The first record that is free.
     free: u32,
     /// How many pairs of on and off are timed in a round.
     pairs: usize,
@@ -36,13 +33,18 @@ struct Bench {
     declined: bool,
 }
 
-/// The times of one round; of on and insert, and of off and remove.
+/// The times of one round of pairs; of on and insert, and of off and remove.
 #[derive(Default)]
 struct Round {
     call: [f64; 2],
     above: [f64; 2],
-    map: [f64; 2],
     behind: [f64; 2],
+}
+
+/// The times of one row, of the same.
+struct Row {
+    alone: [f64; 2],
+    map: [f64; 2],
 }
 
 /// Nanoseconds of a call.
@@ -56,7 +58,7 @@ impl Bench {
         let records = herd.records;
         let mut held = herd.tags(&mut Random::new(records as u64), records + LOOKED_FOR);
         let keys = held.split_off(records);
-        let tables = herd.tables(&held, 1);
+        let tables = herd.tables(&held, IN_A_ROW);
         let mut bench = Bench {
             copy: tables.clone(),
             tables,
@@ -76,11 +78,25 @@ impl Bench {
         for number in 0..TESTED {
             assert!(check(&self.tables), "the tables are sound");
             let key = self.keys[number];
-            assert_eq!(on(&mut self.tables, key, self.free).number, 0);
-            assert!(check(&self.tables), "the tables are sound with the key");
-            assert_eq!(off(&mut self.tables, key).number, 0);
-            self.restore();
+            let with = self.test_change(key, on, off);
+            let same = self.test_change(key, unchecked::on, unchecked::off);
+            assert!(with == same, "the check changes nothing");
         }
+    }
+
+    /// The tables with the key, which is taken off again.
+    fn test_change(
+        &mut self,
+        key: u64,
+        on: fn(&mut Tables, u64, u32) -> Answer,
+        off: fn(&mut Tables, u64) -> Answer,
+    ) -> Tables {
+        assert_eq!(on(&mut self.tables, key, self.free).number, 0);
+        assert!(check(&self.tables), "the tables are sound with the key");
+        let with = self.tables.clone();
+        assert_eq!(off(&mut self.tables, key).number, 0);
+        self.restore();
+        with
     }
 
     fn key(&self, number: usize) -> u64 {
@@ -98,6 +114,16 @@ impl Bench {
 
     fn off(&mut self, key: u64) {
         black_box(off(black_box(&mut self.tables), key));
+    }
+
+    fn on_alone(&mut self, key: u64, record: usize) {
+        let record = self.free + record as u32;
+        let answer = unchecked::on(black_box(&mut self.tables), key, record);
+        self.declined |= answer.number != 0;
+    }
+
+    fn off_alone(&mut self, key: u64) {
+        black_box(unchecked::off(black_box(&mut self.tables), key));
     }
 
     fn insert(&mut self, key: u64) {
@@ -149,32 +175,51 @@ impl Bench {
         add(&mut round.behind, [inserted - without, removed - without]);
     }
 
-    /// One round, of which a first check is not timed; none if an on was declined.
+    /// The tables are those of the start again, after so many rounds or where an on
+    /// was declined; whether they are.
+    fn renew(&mut self, number: usize) -> bool {
+        let renewed = number % SAME_TABLES == 0 || self.declined;
+        if renewed {
+            self.restore();
+        }
+        renewed
+    }
+
+    /// One round of pairs, of which a first check is not timed; none if an on was
+    /// declined.
     fn round(&mut self, number: usize) -> Option<Round> {
         let mut round = Round::default();
-        let since_restored = number % SAME_TABLES;
-        if since_restored == 0 || self.declined {
-            self.restore();
+        if self.renew(number) {
             self.check();
         }
         self.check();
         for pair in 0..self.pairs {
             self.pair(number * self.pairs + pair, &mut round);
         }
-        for row in 0..ROWS {
-            let first = (number * ROWS + row) * IN_A_ROW;
-            let inserted = time(first, IN_A_ROW, |number| self.insert(self.key(number)));
-            let removed = time(first, IN_A_ROW, |number| self.remove(self.key(number)));
-            add(&mut round.map, [inserted, removed]);
-        }
-        let each = |sums: [f64; 2], times: usize| sums.map(|sum| sum / times as f64);
+        let each = |sums: [f64; 2]| sums.map(|sum| sum / self.pairs as f64);
         let round = Round {
-            call: each(round.call, self.pairs),
-            above: each(round.above, self.pairs),
-            map: each(round.map, ROWS),
-            behind: each(round.behind, self.pairs),
+            call: each(round.call),
+            above: each(round.above),
+            behind: each(round.behind),
         };
         (!self.declined).then_some(round)
+    }
+
+    /// One row; none if an on was declined.
+    fn row(&mut self, number: usize) -> Option<Row> {
+        self.renew(number);
+        let first = number * IN_A_ROW;
+        let put_on = time(first, IN_A_ROW, |number| {
+            self.on_alone(self.key(number), number % IN_A_ROW);
+        });
+        let taken_off = time(first, IN_A_ROW, |number| self.off_alone(self.key(number)));
+        let inserted = time(first, IN_A_ROW, |number| self.insert(self.key(number)));
+        let removed = time(first, IN_A_ROW, |number| self.remove(self.key(number)));
+        let row = Row {
+            alone: [put_on, taken_off],
+            map: [inserted, removed],
+        };
+        (!self.declined).then_some(row)
     }
 }
 
@@ -206,15 +251,20 @@ fn add(sums: &mut [f64; 2], times: [f64; 2]) {
         .for_each(|(sum, time)| *sum += time);
 }
 
-/// Measures on and off on a herd for so long.
+/// Measures on and off on a herd for so long, and for a third of it without their
+/// check.
 pub fn changes(herd: Herd, how_long: Duration) -> [Beside; 2] {
     let mut bench = Bench::new(herd);
     let rounds = quiet_rounds(how_long, |number| bench.round(number));
+    bench.restore();
+    let rows = quiet_rounds(how_long / 3, |number| bench.row(number));
     let of = |value: &dyn Fn(&Round) -> f64| median(rounds.iter().map(value).collect());
+    let in_rows = |value: &dyn Fn(&Row) -> f64| median(rows.iter().map(value).collect());
     [0, 1].map(|which: usize| Beside {
         call: of(&|round| round.call[which]),
         above: of(&|round| round.above[which]),
-        map: of(&|round| round.map[which]),
+        alone: in_rows(&|row| row.alone[which]),
+        map: in_rows(&|row| row.map[which]),
         behind: of(&|round| round.behind[which]),
     })
 }

@@ -1,4 +1,5 @@
-//! The calls of include/tag_index.h that are measured.
+//! The calls of include/tag_index.h that are measured, and those of a copy of the
+//! library that checks nothing, which benches/run makes for this program alone.
 
 use model::table::Tables;
 
@@ -15,6 +16,142 @@ pub struct Answer {
     pub more: bool,
 }
 
+/// Find, list, on and off, of the names that begin so.
+macro_rules! calls {
+    ($names:literal) => {
+        extern "C" {
+            #[link_name = concat!($names, "_find")]
+            fn c_find(
+                index: *const u8,
+                index_bytes: usize,
+                keys: *const u64,
+                keys_length: usize,
+                used: *const u8,
+                used_length: usize,
+                key: u64,
+            ) -> Answer;
+            #[link_name = concat!($names, "_list")]
+            fn c_list(
+                index: *const u8,
+                index_bytes: usize,
+                keys: *const u64,
+                keys_length: usize,
+                used: *const u8,
+                used_length: usize,
+                a: u64,
+                b: u64,
+                out: *mut u32,
+                out_length: usize,
+            ) -> Answer;
+            #[link_name = concat!($names, "_on")]
+            fn c_on(
+                index: *mut u8,
+                index_bytes: usize,
+                keys: *mut u64,
+                keys_length: usize,
+                used: *mut u8,
+                used_length: usize,
+                key: u64,
+                record: u32,
+            ) -> Answer;
+            #[link_name = concat!($names, "_off")]
+            fn c_off(
+                index: *mut u8,
+                index_bytes: usize,
+                keys: *mut u64,
+                keys_length: usize,
+                used: *mut u8,
+                used_length: usize,
+                key: u64,
+            ) -> Answer;
+        }
+
+        /// Find.
+        pub fn find(tables: &Tables, key: u64) -> Answer {
+            let Tables { index, keys, used } = tables;
+            // SAFETY: slices with their own lengths, which the call only reads; the
+            // declaration is that of include/tag_index.h.
+            unsafe {
+                c_find(
+                    index.as_ptr(),
+                    index.len(),
+                    keys.as_ptr(),
+                    keys.len(),
+                    used.as_ptr(),
+                    used.len(),
+                    key,
+                )
+            }
+        }
+
+        /// List.
+        pub fn list(tables: &Tables, a: u64, b: u64, out: &mut [u32]) -> Answer {
+            let Tables { index, keys, used } = tables;
+            // SAFETY: as for find; the last slice does not overlap the others.
+            unsafe {
+                c_list(
+                    index.as_ptr(),
+                    index.len(),
+                    keys.as_ptr(),
+                    keys.len(),
+                    used.as_ptr(),
+                    used.len(),
+                    a,
+                    b,
+                    out.as_mut_ptr(),
+                    out.len(),
+                )
+            }
+        }
+
+        /// On.
+        pub fn on(tables: &mut Tables, key: u64, record: u32) -> Answer {
+            let Tables { index, keys, used } = tables;
+            // SAFETY: slices with their own lengths, which do not overlap; the
+            // declaration is that of include/tag_index.h.
+            unsafe {
+                c_on(
+                    index.as_mut_ptr(),
+                    index.len(),
+                    keys.as_mut_ptr(),
+                    keys.len(),
+                    used.as_mut_ptr(),
+                    used.len(),
+                    key,
+                    record,
+                )
+            }
+        }
+
+        /// Off.
+        pub fn off(tables: &mut Tables, key: u64) -> Answer {
+            let Tables { index, keys, used } = tables;
+            // SAFETY: as for on.
+            unsafe {
+                c_off(
+                    index.as_mut_ptr(),
+                    index.len(),
+                    keys.as_mut_ptr(),
+                    keys.len(),
+                    used.as_mut_ptr(),
+                    used.len(),
+                    key,
+                )
+            }
+        }
+    };
+}
+
+calls!("tag_index");
+
+/// The same calls without their check, to be made on sound tables alone: on others
+/// they may read and write where they should not.
+pub mod unchecked {
+    use super::{Answer, Tables};
+
+    calls!("unchecked");
+}
+
 extern "C" {
     fn tag_index_format(
         index: *mut u8,
@@ -27,46 +164,6 @@ extern "C" {
         e: u64,
         p: u64,
     ) -> Answer;
-    fn tag_index_on(
-        index: *mut u8,
-        index_bytes: usize,
-        keys: *mut u64,
-        keys_length: usize,
-        used: *mut u8,
-        used_length: usize,
-        key: u64,
-        record: u32,
-    ) -> Answer;
-    fn tag_index_off(
-        index: *mut u8,
-        index_bytes: usize,
-        keys: *mut u64,
-        keys_length: usize,
-        used: *mut u8,
-        used_length: usize,
-        key: u64,
-    ) -> Answer;
-    fn tag_index_find(
-        index: *const u8,
-        index_bytes: usize,
-        keys: *const u64,
-        keys_length: usize,
-        used: *const u8,
-        used_length: usize,
-        key: u64,
-    ) -> Answer;
-    fn tag_index_list(
-        index: *const u8,
-        index_bytes: usize,
-        keys: *const u64,
-        keys_length: usize,
-        used: *const u8,
-        used_length: usize,
-        a: u64,
-        b: u64,
-        out: *mut u32,
-        out_length: usize,
-    ) -> Answer;
     fn tag_index_check(
         index: *const u8,
         index_bytes: usize,
@@ -77,48 +174,11 @@ extern "C" {
     ) -> bool;
 }
 
-/// Find.
-pub fn find(tables: &Tables, key: u64) -> Answer {
-    let Tables { index, keys, used } = tables;
-    // SAFETY: slices with their own lengths, which the call only reads; the
-    // declaration is that of include/tag_index.h.
-    unsafe {
-        tag_index_find(
-            index.as_ptr(),
-            index.len(),
-            keys.as_ptr(),
-            keys.len(),
-            used.as_ptr(),
-            used.len(),
-            key,
-        )
-    }
-}
-
-/// List.
-pub fn list(tables: &Tables, a: u64, b: u64, out: &mut [u32]) -> Answer {
-    let Tables { index, keys, used } = tables;
-    // SAFETY: as for find; the last slice does not overlap the others.
-    unsafe {
-        tag_index_list(
-            index.as_ptr(),
-            index.len(),
-            keys.as_ptr(),
-            keys.len(),
-            used.as_ptr(),
-            used.len(),
-            a,
-            b,
-            out.as_mut_ptr(),
-            out.len(),
-        )
-    }
-}
-
 /// Format, with W, E and P.
 pub fn format(tables: &mut Tables, [w, e, p]: [u64; 3]) -> Answer {
     let Tables { index, keys, used } = tables;
-    // SAFETY: as for on.
+    // SAFETY: slices with their own lengths, which do not overlap; the
+    // declaration is that of include/tag_index.h.
     unsafe {
         tag_index_format(
             index.as_mut_ptr(),
@@ -130,42 +190,6 @@ pub fn format(tables: &mut Tables, [w, e, p]: [u64; 3]) -> Answer {
             w,
             e,
             p,
-        )
-    }
-}
-
-/// On.
-pub fn on(tables: &mut Tables, key: u64, record: u32) -> Answer {
-    let Tables { index, keys, used } = tables;
-    // SAFETY: slices with their own lengths, which do not overlap; the
-    // declaration is that of include/tag_index.h.
-    unsafe {
-        tag_index_on(
-            index.as_mut_ptr(),
-            index.len(),
-            keys.as_mut_ptr(),
-            keys.len(),
-            used.as_mut_ptr(),
-            used.len(),
-            key,
-            record,
-        )
-    }
-}
-
-/// Off.
-pub fn off(tables: &mut Tables, key: u64) -> Answer {
-    let Tables { index, keys, used } = tables;
-    // SAFETY: as for on.
-    unsafe {
-        tag_index_off(
-            index.as_mut_ptr(),
-            index.len(),
-            keys.as_mut_ptr(),
-            keys.len(),
-            used.as_mut_ptr(),
-            used.len(),
-            key,
         )
     }
 }

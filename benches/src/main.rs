@@ -3,6 +3,7 @@
 //! arguments, if given, are the seconds for reading each herd, and as many for
 //! changing it, and E.
 
+mod aligned;
 mod change;
 mod empty;
 mod herd;

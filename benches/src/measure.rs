@@ -1,7 +1,8 @@
 //! The measures of one herd that is only read.
 
+use crate::aligned::Compared;
 use crate::herd::{Herd, Size};
-use crate::library::{check, find, list};
+use crate::library::{check, find, list, unchecked, Answer};
 use crate::rounds::{
     drawn, median, quiet_rounds, time, together, Beside, Median, LOOKED_FOR, TESTED,
 };
@@ -30,8 +31,8 @@ const KINDS: usize = 1 + 2 * READS.len();
 /// How many records a list may write, as in the day book.
 pub const LISTED: usize = 32;
 
-/// How many reads of the map are timed together.
-const READ_OF_MAP: usize = 256;
+/// How many reads that check nothing are timed together.
+const IN_A_ROW: usize = 256;
 
 /// What was measured of a herd, in nanoseconds a call.
 pub struct Measures {
@@ -52,19 +53,20 @@ impl Measures {
     }
 }
 
-/// The times of one round; three of them for each read.
+/// The times of one round; four of them for each read.
 struct Round {
     memcmp: f64,
     check: f64,
     call: [f64; READS.len()],
     check_and_map: [f64; READS.len()],
+    alone: [f64; READS.len()],
     map: [f64; READS.len()],
 }
 
 /// A herd with all that a round works on.
 struct Bench {
     tables: Tables,
-    copy: Tables,
+    copy: Compared,
     map: BTreeMap<u64, u32>,
     /// Keys to look for: held ones, and others.
     held: Vec<u64>,
@@ -82,7 +84,7 @@ impl Bench {
         let others = held.split_off(herd.records);
         let tables = herd.tables(&held, 0);
         let mut bench = Bench {
-            copy: tables.clone(),
+            copy: Compared::new(&tables),
             tables,
             map: held.iter().copied().zip(0..).collect(),
             held: drawn(&mut random, &held),
@@ -100,16 +102,19 @@ impl Bench {
     fn test(&self) {
         assert!(check(&self.tables), "the tables are sound");
         for &key in &self.held[..TESTED] {
-            let answer = find(&self.tables, key);
-            assert_eq!((answer.number, answer.record), (0, self.map[&key]));
-            self.test_list(key);
+            for answer in [find(&self.tables, key), unchecked::find(&self.tables, key)] {
+                assert_eq!((answer.number, answer.record), (0, self.map[&key]));
+            }
+            self.test_list(key, list);
+            self.test_list(key, unchecked::list);
         }
         for &key in &self.others[..TESTED] {
             assert_eq!(find(&self.tables, key).number, 6);
+            assert_eq!(unchecked::find(&self.tables, key).number, 6);
         }
     }
 
-    fn test_list(&self, key: u64) {
+    fn test_list(&self, key: u64, list: fn(&Tables, u64, u64, &mut [u32]) -> Answer) {
         let mut out = [0; LISTED];
         let answer = list(&self.tables, key, u64::MAX, &mut out);
         let records = self.map.range(key..).take(LISTED + 1).count();
@@ -146,6 +151,22 @@ impl Bench {
         }
     }
 
+    /// The same read without its check.
+    fn read_alone(&self, what: Read, number: usize) {
+        let key = self.key(what, number);
+        let tables = black_box(&self.tables);
+        match what {
+            Read::Held | Read::Other => {
+                black_box(unchecked::find(tables, key));
+            }
+            Read::List => {
+                let mut out = [0; LISTED];
+                let answer = unchecked::list(tables, key, u64::MAX, black_box(&mut out));
+                black_box(answer);
+            }
+        }
+    }
+
     /// The same read of the map.
     fn read_map(&self, what: Read, number: usize) {
         let key = self.key(what, number);
@@ -170,10 +191,7 @@ impl Bench {
     }
 
     fn compare(&self) {
-        let (one, other) = (black_box(&self.tables), black_box(&self.copy));
-        black_box(one.index == other.index);
-        black_box(one.keys == other.keys);
-        black_box(one.used == other.used);
+        black_box(black_box(&self.copy).same(black_box(&self.tables)));
     }
 
     /// A call that is measured by its difference to a check, or a check.
@@ -198,13 +216,15 @@ impl Bench {
             let first = round * self.calls;
             times[kind] = time(first, self.calls, |number| self.call(kind, number));
         }
-        let first = round * READ_OF_MAP;
-        let map = |what| time(first, READ_OF_MAP, |number| self.read_map(what, number));
+        let first = round * IN_A_ROW;
+        let alone = |what| time(first, IN_A_ROW, |number| self.read_alone(what, number));
+        let map = |what| time(first, IN_A_ROW, |number| self.read_map(what, number));
         Round {
             memcmp,
             check: times[0],
             call: READS.map(|what| times[1 + what as usize]),
             check_and_map: READS.map(|what| times[1 + READS.len() + what as usize]),
+            alone: READS.map(alone),
             map: READS.map(map),
         }
     }
@@ -220,6 +240,7 @@ pub fn measure(herd: Herd, how_long: Duration) -> Measures {
         Beside {
             call: of(&|round| round.call[which]),
             above: of(&|round| round.call[which] - round.check),
+            alone: of(&|round| round.alone[which]),
             map: of(&|round| round.map[which]),
             behind: of(&|round| round.check_and_map[which] - round.check),
         }

@@ -14,15 +14,18 @@ made the same way (of lots: of other lots). Times are medians over the quarter o
 times every measure once, close together, about 20 us of calls each (one call where it takes longer), check, find and
 list in random order. A ratio to memcmp or memset is the median of the ratios within rounds, and a row that is less
 check that of the differences; brackets show the interval of the median (95 in 100). Such a row is a small difference
-of large numbers: where the interval is wider than half its value, no ratio is shown. Gets and ranges run many in a
-row, with caches and branch prediction to themselves; behind a check, they find them as a find or a list does. A list
-goes from a held key to the largest, with room for 32 records; the range takes as many. On and off have rounds of their
-own, on tables with one free record: a key is put on and taken off again, each call timed alone, and less a check of
-the same tables. Checks and what is compared with them come in random order. Inserts and removes run 16 in a row. A
-round in which an on finds no page (7) is left out. Format has rounds of its own, for a sixth of the time, on tables of
-the same size, in turn with zeros over the same bytes; it is the whole call, which has no check. The check of the
-tables that it leaves, as many bytes with one entry, is measured there too. The check of eight herds in turn has rounds
-of its own as well, as long: the others check one herd again and again, and we take it that the processor learns it.";
+of large numbers: where the interval is wider than half its value, no ratio is shown. A row without check is measured
+with a copy of the library whose check answers at once that the tables are sound, many calls in a row, as gets and
+ranges are: both have caches and branch prediction to themselves. Behind a check, gets and ranges find them as a find
+or a list does. A list goes from a held key to the largest, with room for 32 records; the range takes as many. On and
+off have rounds of their own, on tables with 16 free records: a key is put on and taken off again, each call timed
+alone, and less a check of the same tables. Checks and what is compared with them come in random order. Ons without
+check, inserts, and then offs and removes, run 16 in a row, and such rows are rounds of their own too, for a third of
+the time. A round in which an on finds no page (7) is left out. Format has rounds of its own, for a sixth of the time,
+on tables of the same size, in turn with zeros over the same bytes; it is the whole call, which has no check. The
+check of the tables that it leaves, as many bytes with one entry, is measured there too. The check of eight herds in
+turn has rounds of its own as well, as long: the others check one herd again and again, and we take it that the
+processor learns it.";
 
 /// Prints what was done, with pages of E entries.
 pub fn print_method(entries: usize) {
@@ -156,9 +159,13 @@ fn print_call(what: &str, call: &str, of_map: &str, herds: Vec<&Beside>) {
     let name = |name: &str| name.replace("CALL", call).replace("MAP", of_map);
     row(&name("CALL, us"), &herds, |m| micros(m.call));
     row(&name("CALL less check, ns"), &herds, |m| nanos(m.above));
+    row(&name("CALL without check, ns"), &herds, |m| nanos(m.alone));
     row(&name("BTreeMap::MAP, ns"), &herds, |m| nanos(m.map));
     row(&name("check and MAP, less check, ns"), &herds, |m| {
         nanos(m.behind)
+    });
+    row(&name("CALL without check / MAP"), &herds, |m| {
+        ratio(m.alone, m.map)
     });
     row(&name("CALL less check / MAP"), &herds, |m| {
         ratio(m.above, m.map)

@@ -36,6 +36,8 @@ pub struct Beside {
     pub call: Median,
     /// The call less check.
     pub above: Median,
+    /// The call without its check, many in a row.
+    pub alone: Median,
     /// The map's call, many in a row.
     pub map: Median,
     /// Check and the map's call, less check.
