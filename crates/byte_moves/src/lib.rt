@@ -60,6 +60,10 @@ fn move_few(index: &mut [u8], to: usize, from: usize, n: usize)
         move_ends(index, to, from, n, 16);
     } else if n >= 8 {
         move_ends(index, to, from, n, 8);
+    } else if n >= 4 {
+        move_ends(index, to, from, n, 4);
+    } else if n >= 2 {
+        move_ends(index, to, from, n, 2);
     } else {
         move_part(index, to, from, n);
     }
