@@ -4,7 +4,7 @@ use mathlib.Core.List.{List, [], _∷_, _++_, map, List·Memᴰ, List·Memᴰ·h
 use Prim.Native.Nat.{ℕ, zero, suc, _<_}
 use native.Mathlib.Omega.{arith}
 use lib.ListN.{length, getD}
-pub use Rattle.leaf_list.specs.Depths.{All}
+pub use Rattle.leaf_list.specs.Lists.{All}
 
 module _ {A : Type 0} where
   -- Two lists in a row.

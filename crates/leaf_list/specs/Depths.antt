@@ -2,12 +2,8 @@
 use mathlib.Core.Logic.{_⊎_}
 use mathlib.Core.List.{List, [], _∷_}
 use Prim.Native.Nat.{ℕ, _≤_, _<_}
+use Rattle.leaf_list.specs.Lists.{All}
 use Rattle.leaf_list.specs.Entries.{Entry, depthOf}
-
--- P of every element.
-abbrev pub All : {A : Type 0} → (A → Type 0) → List A → Type 0
-All P [] = Unit {0}
-All P (x ∷ xs) = P x × All P xs
 
 module _ {A : Type 0} (depth : A → ℕ) where
   -- None is as deep as d before one is shallower.

@@ -1,3 +1,4 @@
+pub mod Lists
 pub mod Keys
 pub mod Entries
 pub mod Herd

@@ -3,7 +3,7 @@ use mathlib.Core.Path.{_≡_}
 use mathlib.Core.List.{List, [], _∷_, _++_}
 use Prim.Native.Nat.{ℕ, _+_, _≤_, _<_}
 use lib.ListN.{length}
-pub use Rattle.leaf_list.specs.Depths.{All}
+pub use Rattle.leaf_list.specs.Lists.{All}
 
 abbrev pub concat : {A : Type 0} → List (List A) → List A
 concat [] = []

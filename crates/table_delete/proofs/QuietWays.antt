@@ -239,7 +239,7 @@ pub way-quiet : (n : ℕ) {e P : ℕ} {b : List ℕ} {x : Ref} {w key position :
     → Way w key (pagesAt (layoutOf e) b) n (x .1) position τ leaf → (b′ : List ℕ)
     → ((μ : ℕ) → StruckNear e b (leaf .page .0) (leaf .at) (leaf .trail) (leaf .before) μ b′) → Quiet e P (suc n) b x (leftFrom w key position) τ ν b′
 way-quiet zero τ ν leaf h a b′ d =
-    quiet-leaf h (record { at = leaf .at; position = leaf .position; trail = leaf .trail }) (a .place) ν b′ (rw (a .page-is, a .before-is) at (d ν))
+    quiet-leaf h (record { at = leaf .at; position = a .next; trail = leaf .trail }) (a .place) ν b′ (rw (a .page-is, a .before-is) at (d ν))
 way-quiet (suc n) {e} {P} {b} {x} τ ν leaf h a b′ d =
     quiet-up h (a .0) (a .1) ν b′
     (way-quiet n (a .0 .trail) (followingAt (suc n) (pagesAt (layoutOf e) b) ν (drop (suc (a .0 .at)) (pagesAt (layoutOf e) b (x .1)))) leaf (found-down h (a .0) (a .1)) (a .2) b′ d)

@@ -68,8 +68,9 @@ module _ {index keys used : List ℕ} (s : Sound index keys used) (key : ℕ) (n
         high = p .within;
       }
 
-  found-in : (position : ℕ) (r : Leaf) → NextPosition w key 0 position → Descended w key position 0 (rootLevel index) (pagesAt (layoutOf (entriesOf index)) index) (rootOf index) r
-      → findFlat (positions 0 (bits w key)) 0 (leafList w herd) ≡ (leftFrom w key (r .position), r .trail, entry (r .depth) (recordOf 65535 (r .pointer)))
+  found-in : (position : ℕ) (r : Leaf) → NextPosition w key 0 position
+      → (d : Descended w key position 0 (rootLevel index) (pagesAt (layoutOf (entriesOf index)) index) (rootOf index) r)
+      → findFlat (positions 0 (bits w key)) 0 (leafList w herd) ≡ (leftFrom w key (d .next), r .trail, entry (r .depth) (recordOf 65535 (r .pointer)))
   found-in position r p d =
       ap (findFlat (positions 0 (bits w key)) 0) (sym (s .leaves))
       ∙ sym (findIn-leaves (entriesOf index) (positions 0 (bits w key)) tree (sound-tree 65535 (layoutOf (entriesOf index)) (pagesOf index) index (rootLevel index) (rootOf index) (s .pages)) (positions-rise 0 (bits w key))

@@ -164,9 +164,10 @@ unfolding nodeAt
 descend-leaf (suc n) pre z r ends h = absurd (omega arith)
 descend-leaf {b} {e} {P} {page} {w} {key} {position} {τ} zero pre z r ends h =
     record {
+      next = ends .next;
       found =
-          descend-step pre (record { at = r .at; position = r .position; trail = r .trail }) (ends .place)
-          ∙ ap (λ (x : Ref). (leftFrom w key (r .position), r .trail, entry (x .0) (recordOf 65535 (x .1)))) (ends .entry-is);
+          descend-step pre (record { at = r .at; position = ends .next; trail = r .trail }) (ends .place)
+          ∙ ap (λ (x : Ref). (leftFrom w key (ends .next), r .trail, entry (x .0) (recordOf 65535 (x .1)))) (ends .entry-is);
       pointer-high = h;
       way = ends;
     }
@@ -199,6 +200,7 @@ module _ {b : List ℕ} {e P page w key position τ : ℕ} (n : ℕ) (pre : Desc
   unfolding nodeAt
   descend-found r d =
       record {
+        next = d .next;
         found = descend-step pre s stop ∙ ap (λ (m : ℕ). findBelow (suc n) (leftFrom w key (s .position)) (s .trail) (nodeAt 65535 (suc n) (pagesAt (layoutOf e) b) (0, m))) (sym pointed) ∙ d .found;
         pointer-high = d .pointer-high;
         way = (s, stop, subst (λ (m : ℕ). Way w key (pagesAt (layoutOf e) b) n m (s .position) (s .trail) r) pointed (d .way));

@@ -216,11 +216,10 @@ last-next w d D τ wide pos inside clear =
 -- ---- as the code computes it
 
 -- The bits behind depth d, of w.
-pub ones-behind : (w d first : ℕ) → 0 < d → d ≤ w → first ≡ 2 ^ (w - 1) → (first - 1) / 2 ^ (d - 1) ≡ 2 ^ (w - d) - 1
-ones-behind w d first pos h e =
+pub ones-behind : (w d ones : ℕ) → 0 < d → d ≤ w → ones ≡ 2 ^ (w - 1) - 1 → ones / 2 ^ (d - 1) ≡ 2 ^ (w - d) - 1
+ones-behind w d ones pos h e =
     let s : w - 1 ≡ w - d + (d - 1) = omega arith in
-    ap (λ (n : ℕ). (n - 1) / 2 ^ (d - 1)) (e ∙ ap (λ (m : ℕ). 2 ^ m) s) ∙ ap (λ (n : ℕ). n / 2 ^ (d - 1)) (ones-split (w - d) (d - 1))
-    ∙ high (2 ^ (w - d) - 1) (d - 1) (ones-lt (d - 1))
+    ap (λ (n : ℕ). n / 2 ^ (d - 1)) (e ∙ ap (λ (m : ℕ). 2 ^ m - 1) s ∙ ones-split (w - d) (d - 1)) ∙ high (2 ^ (w - d) - 1) (d - 1) (ones-lt (d - 1))
 
 pub or-behind : (w d D behind : ℕ) → behind ≡ 2 ^ (w - d) - 1 → bitOr D behind ≡ lastBefore w d D
 or-behind w d D behind e =

@@ -98,10 +98,11 @@ pub record DescendPre (b : List ℕ) (e P n page w key position : ℕ) : Type 0 
   pub narrow : key < 2 ^ w
   pub high : position ≤ w + 1
 
--- The place found in a page of level 0, with the depth τ before the page.
+-- The place found in a page of level 0, with the depth τ before the page; next is the next position there.
 pub record Ends (w key position τ page : ℕ) (row : List Ref) (r : Leaf) : Type 0 where
   pub page-is : r .page .0 ≡ page
-  pub place : Stopped w key position τ row (record { at = r .at; position = r .position; trail = r .trail })
+  pub next : ℕ
+  pub place : Stopped w key position τ row (record { at = r .at; position = next; trail = r .trail })
   pub entry-is : getD row (r .at) (0, 0) ≡ (r .depth, r .pointer)
   pub before-is : r .before ≡ τ
 
@@ -113,8 +114,9 @@ Way w key pages (suc n) page position τ r =
 
 -- The entry that figure 6 finds below a page of level n, with the positions left and the depth before it.
 pub record Descended (w key position τ n : ℕ) (pages : Pages) (page : ℕ) (r : Leaf) : Type 0 where
+  pub next : ℕ
   pub found :
       findBelow (suc n) (leftFrom w key position) τ (nodeAt 65535 (suc n) pages (0, page))
-      ≡ (leftFrom w key (r .position), r .trail, entry (r .depth) (recordOf 65535 (r .pointer)))
+      ≡ (leftFrom w key next, r .trail, entry (r .depth) (recordOf 65535 (r .pointer)))
   pub pointer-high : r .pointer ≤ 65535
   pub way : Way w key pages n page position τ r

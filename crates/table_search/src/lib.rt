@@ -21,13 +21,12 @@ pub struct Spot {
     pub trail: u64,
 }
 
-// An entry on level 0: its page and its place there, what stands there, the next position, the depth before it, and the depth before its page.
+// An entry on level 0: its place in its page, what it points at, the page, its depth, the depth before it, and the depth before its page.
 pub struct Leaf {
-    pub page: PageNo,
     pub at: usize,
-    pub depth: u64,
     pub pointer: u32,
-    pub position: u64,
+    pub page: PageNo,
+    pub depth: u64,
     pub trail: u64,
     pub before: u64,
 }
@@ -71,13 +70,23 @@ fn bits_ahead(w: u64, key: u64, b: u64) -> u64
     first + key % first
 }
 
-// The last number before the discriminator of an entry of depth d that follows the discriminator disc.
-fn last_before(w: u64, disc: u64, d: u64) -> u64
-    requires { ⌜ (w ≤ 64) × (0 < d) × (d ≤ w) ⌝ }
+// The bits behind the first of w.
+fn bits_behind_first(w: u64) -> u64
+    requires { ⌜ w ≤ 64 ⌝ }
+    ensures { λ r. ⌜ r ≡ 2 ^ (w - 1) - 1 ⌝ }
+{
+    if w == 0 {
+        return 0;
+    }
+    bit(w, 1) - 1
+}
+
+// The last number before the discriminator of an entry of depth d that follows the discriminator disc; ones are the bits behind the first of w.
+fn last_before(w: u64, ones: u64, disc: u64, d: u64) -> u64
+    requires { ⌜ (w ≤ 64) × (ones ≡ 2 ^ (w - 1) - 1) × (0 < d) × (d ≤ w) ⌝ }
     ensures { λ r. ⌜ r ≡ lastBefore w d disc ⌝ }
 {
-    let behind = (bit(w, 1) - 1) >> (d - 1);
-    disc | behind
+    disc | (ones >> (d - 1))
 }
 
 // The position of the last one-bit of a number of w bits; none where there is none.
@@ -100,11 +109,12 @@ pub fn seek(index: &[u8], e: u8, page: PageNo, w: u64, key: u64, position: u64, 
 {
     let n = wide(count(index, e, page));
     let bits = bits_ahead(w, key, position);
+    let ones = bits_behind_first(w);
     let mut disc: u64 = 0;
     let mut i: usize = 0;
     while i + 2 < n {
-        let first = last_before(w, disc, deep(depth(index, e, page, i)));
-        let second = last_before(w, first + 1, deep(depth(index, e, page, i + 1)));
+        let first = last_before(w, ones, disc, deep(depth(index, e, page, i)));
+        let second = last_before(w, ones, first + 1, deep(depth(index, e, page, i + 1)));
         if bits <= second {
             break;
         }
@@ -112,7 +122,7 @@ pub fn seek(index: &[u8], e: u8, page: PageNo, w: u64, key: u64, position: u64, 
         i += 2;
     }
     if i + 1 < n {
-        let last = last_before(w, disc, deep(depth(index, e, page, i)));
+        let last = last_before(w, ones, disc, deep(depth(index, e, page, i)));
         if last < bits {
             disc = last + 1;
             i += 1;
@@ -133,11 +143,10 @@ fn leaf_in(index: &[u8], e: u8, page: PageNo, w: u64, key: u64, position: u64, t
     let s = seek(index, e, page, w, key, position, trail);
     let at = s.at;
     Leaf {
-        page,
         at,
-        depth: deep(depth(index, e, page, at)),
         pointer: pointer(index, e, page, at),
-        position: s.position,
+        page,
+        depth: deep(depth(index, e, page, at)),
         trail: s.trail,
         before: trail,
     }

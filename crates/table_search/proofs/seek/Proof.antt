@@ -15,10 +15,10 @@ use Rattle.table_search.proofs.seek.Statement.{statement}
 use Rattle.table_search.proofs.seek.Tie as tie
 
 abbrev Inv-loop : tie.InvT-loop
-Inv-loop index e page w key position trail n bits disc₀ i₀ disc i = (n ≡ length (pagesAt (layoutOf e) index (page .0))) × SeekingBy w key position (pagesAt (layoutOf e) index (page .0)) bits disc i
+Inv-loop index e page w key position trail n bits ones disc₀ i₀ disc i = (n ≡ length (pagesAt (layoutOf e) index (page .0))) × SeekingBy w key position (pagesAt (layoutOf e) index (page .0)) bits disc i
 
 abbrev μ-loop : tie.MeasureT-loop
-μ-loop index e page w key position trail n bits disc₀ i₀ disc i = n - i
+μ-loop index e page w key position trail n bits ones disc₀ i₀ disc i = n - i
 
 count-requires : tie.Need-count-requires Inv-loop μ-loop
 count-requires c κs = search needs
@@ -29,11 +29,14 @@ wide-requires c κs = search needs
 bits-ahead-requires : tie.Need-bits-ahead-requires Inv-loop μ-loop
 bits-ahead-requires c κs = search needs
 
+bits-behind-first-requires : tie.Need-bits-behind-first-requires Inv-loop μ-loop
+bits-behind-first-requires c κs = search needs
+
 loop-holds : tie.Need-loop-holds Inv-loop μ-loop
 loop-holds c =
-    let pre = c .before .before .before .before .pre in (
-      c .before .wide .ensures .0 ∙ c .before .before .count .ensures ∙ sym (length-refs _ _),
-      seek-begun (pre .width) (pre .low) (pre .some) (pre .high) (pre .unrepeated) _ (c .bits-ahead .ensures),
+    let pre = c .before .before .before .before .before .pre in (
+      c .before .before .wide .ensures .0 ∙ c .before .before .before .count .ensures ∙ sym (length-refs _ _),
+      seek-begun (pre .width) (pre .low) (pre .some) (pre .high) (pre .unrepeated) _ (c .before .bits-ahead .ensures),
     )
 
 add-loop : tie.Need-add-loop Inv-loop μ-loop
@@ -48,14 +51,14 @@ deep-requires c κs = search needs
 last-before-requires : tie.Need-last-before-requires Inv-loop μ-loop
 last-before-requires c κs =
     let at = c .before .before .before in
-    let pre = at .before .before .before .before .before .pre in
+    let pre = at .before .before .before .before .before .before .pre in
     let d = c .deep .ensures ∙ c .before .depth .ensures in
-    (pre .width, depth-inner _ _ pre (omega (arith, at .loop .inv .0)) d, read-depth _ _ pre (at .loop .inv .1 .seeking .inside) d .0)
+    (pre .width, at .before .bits-behind-first .ensures, depth-inner _ _ pre (omega (arith, at .loop .inv .0)) d, read-depth _ _ pre (at .loop .inv .1 .seeking .inside) d .0)
 
 add-last-before : tie.Need-add-last-before Inv-loop μ-loop
 add-last-before c =
     let at = c .before .before .before .before in
-    let pre = at .before .before .before .before .before .pre in
+    let pre = at .before .before .before .before .before .before .pre in
     let inv = at .loop .inv in
     let d = c .before .deep .ensures ∙ c .before .before .depth .ensures in
     let read = read-depth _ _ pre (inv .1 .seeking .inside) d in
@@ -73,9 +76,9 @@ deep-requires-2 c κs = search needs
 last-before-requires-2 : tie.Need-last-before-requires-2 Inv-loop μ-loop
 last-before-requires-2 c κs =
     let at = c .before .before .before .before .before .before in
-    let pre = at .before .before .before .before .before .pre in
+    let pre = at .before .before .before .before .before .before .pre in
     let d = c .deep2 .ensures ∙ c .before .depth2 .ensures in
-    (pre .width, depth-inner _ _ pre (omega (arith, at .loop .inv .0)) d, read-depth _ _ pre (omega (arith, at .loop .inv .0)) d .0)
+    (pre .width, at .before .bits-behind-first .ensures, depth-inner _ _ pre (omega (arith, at .loop .inv .0)) d, read-depth _ _ pre (omega (arith, at .loop .inv .0)) d .0)
 
 add-disc : tie.Need-add-disc Inv-loop μ-loop
 add-disc c = search needs
@@ -91,7 +94,7 @@ loop-again c =
     let second = c .before in
     let first = second .before .before .before in
     let at = first .before .before .before .before in
-    let pre = at .before .before .before .before .before .pre in
+    let pre = at .before .before .before .before .before .before .pre in
     let inv = at .loop .inv in
     let read = read-depth _ _ pre (inv .1 .seeking .inside) (first .before .deep .ensures ∙ first .before .before .depth .ensures) in
     let read2 = read-depth _ _ pre (omega (arith, inv .0)) (second .before .deep2 .ensures ∙ second .before .before .depth2 .ensures) in (
@@ -111,9 +114,9 @@ deep-requires-3 c κs = search needs
 last-before-requires-3 : tie.Need-last-before-requires-3 Inv-loop μ-loop
 last-before-requires-3 c κs =
     let at = c .before .before .before .before in
-    let pre = at .before .before .before .before .before .pre in
+    let pre = at .before .before .before .before .before .before .pre in
     let d = c .deep3 .ensures ∙ c .before .depth3 .ensures in
-    (pre .width, depth-inner _ _ pre (omega (arith, at .loop .inv .0)) d, read-depth _ _ pre (at .loop .inv .1 .seeking .inside) d .0)
+    (pre .width, at .before .bits-behind-first .ensures, depth-inner _ _ pre (omega (arith, at .loop .inv .0)) d, read-depth _ _ pre (at .loop .inv .1 .seeking .inside) d .0)
 
 add-disc-2 : tie.Need-add-disc-2 Inv-loop μ-loop
 add-disc-2 c = search needs
@@ -125,7 +128,7 @@ add-i-2 c = search needs
 halted : (c : tie.Joined2 Inv-loop μ-loop) → Ends (c .before .before .loop .inv .1) (c .if2 .disc) (c .if2 .i)
 halted c =
     let at = c .before .before in
-    let pre = at .before .before .before .before .before .pre in
+    let pre = at .before .before .before .before .before .before .pre in
     let inv = at .loop .inv in
     ⊎-elim
     (λ x.
@@ -149,18 +152,18 @@ halted c =
 
 first-difference-requires : tie.Need-first-difference-requires Inv-loop μ-loop
 first-difference-requires c κs =
-    let pre = c .before .before .before .before .before .before .before .pre in
+    let pre = c .before .before .before .before .before .before .before .before .pre in
     (pre .width, bits-low (pre .width) (pre .low) (halted c .by), disc-low (pre .width) (pre .low) (halted c .by))
 
 last-position-requires : tie.Need-last-position-requires Inv-loop μ-loop
 last-position-requires c κs =
-    let pre = c .before .before .before .before .before .before .before .before .pre in
+    let pre = c .before .before .before .before .before .before .before .before .before .pre in
     (pre .width, disc-low (pre .width) (pre .low) (halted (c .before) .by))
 
 returns : tie.Need-returns Inv-loop μ-loop
 returns c =
     let at = c .before .before in
-    let pre = at .before .before .before .before .before .before .before .pre in
+    let pre = at .before .before .before .before .before .before .before .before .pre in
     seek-stops (pre .width) (pre .low) (halted at) _ _ (c .before .first-difference .ensures .0) (c .last-position .ensures)
 
 pub seek-spec : {M : Type 1} → statement M
@@ -172,6 +175,7 @@ seek-spec =
     count-requires
     wide-requires
     bits-ahead-requires
+    bits-behind-first-requires
     loop-holds
     add-loop
     depth-requires
