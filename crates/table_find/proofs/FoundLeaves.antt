@@ -163,15 +163,11 @@ module _ {index keys used : List ℕ} (s : Sound index keys used) (h : Index) (i
     pub key-narrow : key < 2 ^ w
     key-narrow = rw (e, i .width) narrow
 
-    pub descend-start : (position : ℕ) → NextPosition w key 0 position → DescendPre index (h .entries) (h .pages) level (h .root .0) w key position
+    pub descend-start : (position : ℕ) → NextPosition w key 0 position → DescendPre index (entriesOf index) (pagesOf index) level (h .root .0) (widthOf index) key position
     descend-start position p =
-        rw (l, i .entries, i .pages, i .root)
-        (subst (λ (n : ℕ). DescendPre index (entriesOf index) (pagesOf index) (rootLevel index) (rootOf index) n key position) (sym (e ∙ i .width))
-        (start-descend s key narrow position (subst (λ (n : ℕ). NextPosition n key 0 position) (e ∙ i .width) p)))
+        rw (l, i .entries, i .root) (start-descend s key narrow position (subst (λ (n : ℕ). NextPosition n key 0 position) (e ∙ i .width) p))
 
-    pub descend-end : (position : ℕ) (r : Leaf) → NextPosition w key 0 position → Descended w key position 0 level (pagesAt (layoutOf (h .entries)) index) (h .root .0) r
+    pub descend-end : (position : ℕ) (r : Leaf) → NextPosition w key 0 position → Descended (widthOf index) key position 0 level (pagesAt (layoutOf (entriesOf index)) index) (h .root .0) r
         → FoundLeaf index keys used key r
     descend-end position r p d =
-        found-leaf s key narrow position r (subst (λ (n : ℕ). NextPosition n key 0 position) (e ∙ i .width) p)
-        (subst (λ (n : ℕ). Descended n key position 0 (rootLevel index) (pagesAt (layoutOf (entriesOf index)) index) (rootOf index) r) (e ∙ i .width)
-        (rw (l, i .entries, i .root) at d))
+        found-leaf s key narrow position r (subst (λ (n : ℕ). NextPosition n key 0 position) (e ∙ i .width) p) (rw (l, i .entries, i .root) at d)

@@ -18,10 +18,9 @@ pub fn leaf_of(index: &[u8], keys: &[u64], used: &[u8], key: u64) -> Leaf
 {
     let h = index_table::header::read(index);
     let w = index_table::layout::deep(h.width);
-    let e = h.entries;
-    let level = index_table::layout::level(index, e, h.root);
+    let level = index_table::layout::level(index, h.entries, h.root);
     let position = table_search::next_position(w, key, 0);
-    table_search::descend(index, e, h.pages, level, h.root, w, key, position, 0)
+    table_search::descend(index, level, h.root, key, position, 0)
 }
 
 // The record of a held key: only a live leaf yields one, and its key is compared whole.

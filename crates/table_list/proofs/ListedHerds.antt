@@ -113,7 +113,7 @@ module _ {index keys used : List ℕ} (s : Sound index keys used) (h : Index) (x
   list-start position p =
       record {
         P = h .pages;
-        place = descend-start s h x w a level e l narrow position p;
+        place = rw (x .entries, x .pages, e ∙ x .width) (descend-start s h x w a level e l narrow position p);
         inside = rw (l, x .entries, x .root) (leaves-inside s);
       }
 

@@ -2,6 +2,7 @@
 ghost use mathlib.Core.Path.{_≡_};
 ghost use Prim.Native.Nat.{_-_, _%_, _^_, _≤_, _<_};
 ghost use Rattle.index_table.specs.Layout.{Within, layoutOf};
+ghost use Rattle.index_table.specs.Header.{widthOf, entriesOf, pagesOf};
 ghost use Rattle.index_table.specs.Pages.{pagesAt};
 ghost use Rattle.table_search.specs.Places.{ahead, firstPosition, lastBefore, lastPosition, NextPosition, SeekPre, Stopped, Ends, DescendPre, Descended};
 use index_table::layout::PageNo;
@@ -153,35 +154,19 @@ fn leaf_in(index: &[u8], e: u8, page: PageNo, w: u64, key: u64, position: u64, t
 }
 
 // From a page of a level down to the entry that figure 6 finds. The position list is carried on by its next position, and the depth before with it.
-// The slice goes down as a part of itself, all of it: handed on as it is, it would be copied at each level.
-pub fn descend(
-    index: &[u8],
-    e: u8,
-    pages: u16,
-    level: u8,
-    page: PageNo,
-    w: u64,
-    key: u64,
-    position: u64,
-    trail: u64,
-) -> Leaf
-    requires { ⌜ DescendPre (now index) e pages level (page .0) w key position ⌝ }
-    ensures { λ r. ⌜ Descended w key position trail level (pagesAt (layoutOf e) (now (index .entry))) (page .0) r ⌝ }
+// The slice goes down as a part of itself, all of it: handed on as it is, it would be copied at each level. W and E are read on each level: handed
+// down, they would go through memory.
+pub fn descend(index: &[u8], level: u8, page: PageNo, key: u64, position: u64, trail: u64) -> Leaf
+    requires { ⌜ DescendPre (now index) (entriesOf (now index)) (pagesOf (now index)) level (page .0) (widthOf (now index)) key position ⌝ }
+    ensures { λ r. ⌜ Descended (widthOf (now (index .entry))) key position trail level (pagesAt (layoutOf (entriesOf (now (index .entry)))) (now (index .entry))) (page .0) r ⌝ }
 {
+    let h = index_table::header::read(index);
+    let e = h.entries;
+    let w = deep(h.width);
     if level == 0 {
         return leaf_in(index, e, page, w, key, position, trail);
     }
     let s = seek(index, e, page, w, key, position, trail);
     let below = child(index, e, page, s.at);
-    descend(
-        &index[0..],
-        e,
-        pages,
-        level - 1,
-        below,
-        w,
-        key,
-        s.position,
-        s.trail,
-    )
+    descend(&index[0..], level - 1, below, key, s.position, s.trail)
 }
