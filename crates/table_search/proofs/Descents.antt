@@ -159,16 +159,15 @@ module _ {b : List ℕ} {e P n page w key position : ℕ} (pre : DescendPre b e 
 
 -- On level 0 the entry is the answer.
 pub descend-leaf : {b : List ℕ} {e P page w key position τ : ℕ} (n : ℕ) (pre : DescendPre b e P n page w key position) → n ≡ 0
-    → (r : Leaf) → Ends w key position τ page (pagesAt (layoutOf e) b page) r → r .pointer ≤ 65535 → Descended w key position τ n (pagesAt (layoutOf e) b) page r
+    → (r : Leaf) → Ends w key position τ page (pagesAt (layoutOf e) b page) r → Descended w key position τ n (pagesAt (layoutOf e) b) page r
 unfolding nodeAt
-descend-leaf (suc n) pre z r ends h = absurd (omega arith)
-descend-leaf {b} {e} {P} {page} {w} {key} {position} {τ} zero pre z r ends h =
+descend-leaf (suc n) pre z r ends = absurd (omega arith)
+descend-leaf {b} {e} {P} {page} {w} {key} {position} {τ} zero pre z r ends =
     record {
       next = ends .next;
       found =
           descend-step pre (record { at = r .at; position = ends .next; trail = r .trail }) (ends .place)
           ∙ ap (λ (x : Ref). (leftFrom w key (ends .next), r .trail, entry (x .0) (recordOf 65535 (x .1)))) (ends .entry-is);
-      pointer-high = h;
       way = ends;
     }
 
@@ -202,7 +201,6 @@ module _ {b : List ℕ} {e P page w key position τ : ℕ} (n : ℕ) (pre : Desc
       record {
         next = d .next;
         found = descend-step pre s stop ∙ ap (λ (m : ℕ). findBelow (suc n) (leftFrom w key (s .position)) (s .trail) (nodeAt 65535 (suc n) (pagesAt (layoutOf e) b) (0, m))) (sym pointed) ∙ d .found;
-        pointer-high = d .pointer-high;
         way = (s, stop, subst (λ (m : ℕ). Way w key (pagesAt (layoutOf e) b) n m (s .position) (s .trail) r) pointed (d .way));
       }
 

@@ -4,5 +4,6 @@ pub mod BitsAhead
 pub mod LastBits
 pub mod PageDiscriminators
 pub mod PageSearches
+pub mod PlaceNumbers
 pub mod Descents
 pub mod WayEnds

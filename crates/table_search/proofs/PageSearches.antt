@@ -1,18 +1,22 @@
 -- The search of a page's row by the discriminators of its own entries. Assumes nothing.
 use mathlib.Core.Path.{_≡_, refl, sym, ap, subst, _∙_}
 use mathlib.Core.Logic.{_⊎_, inl, inr}
+use mathlib.Core.Bool.{Bool, cond}
 use mathlib.Core.List.{List, _∷_}
 use Prim.Native.Nat.{ℕ, suc, _+_, _-_, _/_, _%_, _^_, _≤_, _<_}
 use native.Mathlib.Omega.{arith}
 use native.Mathlib.Nat.{mod-lt, eq-or-lt-of-le, eq-zero-or-pos, lt-of-le-of-lt, zero-div}
 use native.Mathlib.Numerals.{add-one}
+use lib.Dec.{leb}
 use lib.ListN.{length, getD, drop}
 use lib.Pow.{pow-pos}
 use lib.Seq.{drop-cons}
+use borrow.Author.Tests.{le-leb, lt-leb}
 use Rattle.leaf_list.specs.Keys.{bits, firstDifference}
 use Rattle.leaf_list.specs.Depths.{Unmatched, Unrepeated}
 use Rattle.index_table.specs.Layout.{Ref}
-use Rattle.table_search.specs.Places.{ahead, lastBefore, lastPosition, depthOf, Stopped}
+use Rattle.table_search.specs.declared.Spot.{Spot}
+use Rattle.table_search.specs.Places.{ahead, lastBefore, lastPosition, depthOf, spotAt, Stopped}
 use Rattle.table_search.proofs.BitsAhead.{order, ahead-low}
 use Rattle.table_search.proofs.PageDiscriminators.{Apart, next-before, next-behind, disc-rises, next-fits, apart-start, apart-stop, apart-pass, apart-next, apart-position, last-next}
 use Rattle.table_search.proofs.Stops.{Seeking, depthBefore, depth-before, seeking-start, seeking-more, seeking-stop}
@@ -32,13 +36,6 @@ pub record SeekingBy (w key b₀ : ℕ) (row : List Ref) (a D i : ℕ) : Type 0 
 pub record Halted (w key b₀ : ℕ) (row : List Ref) (a D i : ℕ) : Type 0 where
   pub by : SeekingBy w key b₀ row a D i
   pub stops : (suc i ≡ length row) ⊎ (getD row i (0, 0) .0 < by .position)
-
--- The same place, told otherwise.
-abbrev pub Ends : {w key b₀ : ℕ} {row : List Ref} {a D i : ℕ} → SeekingBy w key b₀ row a D i → ℕ → ℕ → Type 0
-Ends {w} {key} {b₀} {row} {a} s D i = Halted w key b₀ row a D i
-
-pub ended : {w key b₀ : ℕ} {row : List Ref} {a D i D′ i′ : ℕ} → Halted w key b₀ row a D i → D′ ≡ D → i′ ≡ i → Halted w key b₀ row a D′ i′
-ended {w} {key} {b₀} {row} {a} h e f = rw (e, f) h
 
 module _ {w key b₀ : ℕ} {row : List Ref} (wide : w ≤ 64) (pos : 0 < b₀) where
   pub seek-begun : 1 ≤ length row → b₀ ≤ w + 1 → Unrepeated depthOf row → (a : ℕ) → a ≡ ahead w key b₀ → SeekingBy w key b₀ row a 0 0
@@ -158,14 +155,23 @@ module _ {w key b₀ : ℕ} {row : List Ref} (wide : w ≤ 64) (pos : 0 < b₀) 
         let e : i + 1 + 1 ≡ i + 2 = omega arith in
         rw second-too (subst (SeekingBy w key b₀ row a (lastBefore w c (lastBefore w d D + 1) + 1)) e (seek-goes one c-low c-is (omega arith) (omega (arith, second-too))))
 
-    -- or the second stops the search, where the first is read again.
-    pub halt-second : {d′ : ℕ} → d′ ≡ getD row i (0, 0) .0 → (last : ℕ) → last ≡ lastBefore w d′ D → i + 1 < length row → last < a → a ≤ second → Halted w key b₀ row a (last + 1) (i + 1)
-    halt-second d′-is last last-is h l g =
-        let same : last ≡ lastBefore w d D = last-is ∙ ap (λ (n : ℕ). lastBefore w n D) (d′-is ∙ sym is) in
-        rw same (halt-here (seek-goes s low is h (omega (arith, same))) c-low c-is (omega (arith, second-too)))
+    -- or the second stops the search.
+    pub halt-second : i + 1 < length row → a ≤ second → first < a → Halted w key b₀ row a (first + 1) (i + 1)
+    halt-second h g l = rw first-is (halt-here (seek-goes s low is h (omega (arith, first-is))) c-low c-is (omega (arith, second-too)))
 
-  -- The position and the depth before are told by what the search carries.
-  pub seek-stops : {a D i τ : ℕ} → Halted w key b₀ row a D i → (p t : ℕ) → p ≡ firstDifference 0 (bits w a) (bits w D) → t ≡ lastPosition w τ D → Stopped w key b₀ τ row (record { at = i; position = p; trail = t })
-  seek-stops {a} {D} {i} {τ} h p t e f =
+  -- The place where it ends is told by what the search carries,
+  pub stop-at : {a D i τ : ℕ} → Halted w key b₀ row a D i → (r : Spot) → r ≡ spotAt w a τ D i → Stopped w key b₀ τ row r
+  stop-at {a} {D} {i} {τ} h r e =
       let s = h .by in
-      seeking-stop w key b₀ τ row (s .position) i p t (s .seeking) (e ∙ apart-position w a D (s .position) (omega (arith, pos, s .seeking .rise)) (s .apart)) (f ∙ s .trailing τ) (h .stops)
+      subst (Stopped w key b₀ τ row) (sym e)
+      (seeking-stop w key b₀ τ row (s .position) i (firstDifference 0 (bits w a) (bits w D)) (lastPosition w τ D) (s .seeking)
+      (apart-position w a D (s .position) (omega (arith, pos, s .seeking .rise)) (s .apart)) (s .trailing τ) (h .stops))
+
+  -- be it at an entry or at the one behind it.
+  pub stop-of-two : {a D i d τ : ℕ} → SeekingBy w key b₀ row a D i → d ≤ w → d ≡ getD row i (0, 0) .0 → (last : ℕ) → last ≡ lastBefore w d D
+      → (last < a → Halted w key b₀ row a (last + 1) (i + 1)) → (r : Spot) → r ≡ cond (leb a last) (spotAt w a τ D i) (spotAt w a τ (last + 1) (i + 1)) → Stopped w key b₀ τ row r
+  stop-of-two {a} {D} {i} {d} {τ} s low is last last-is behind r e = go (order a last)
+    where
+      go : (a ≤ last) ⊎ (last < a) → Stopped w key b₀ τ row r
+      go (inl h) = stop-at (halt-here s low is (omega (arith, last-is))) r (e ∙ ap (λ (t : Bool). cond t (spotAt w a τ D i) (spotAt w a τ (last + 1) (i + 1))) (le-leb a last h))
+      go (inr h) = stop-at (behind h) r (e ∙ ap (λ (t : Bool). cond t (spotAt w a τ D i) (spotAt w a τ (last + 1) (i + 1))) (lt-leb a last h))

@@ -7,7 +7,7 @@ use Prim.Native.Nat.{ℕ, zero, suc, _+_, _-_, _*_, _/_, _%_, _^_, _≤_, _<_}
 use lib.Count.{leadingZeros, trailingZeros}
 use lib.Dec.{eqb, leb}
 use lib.ListN.{length, getD, take, drop}
-use Rattle.leaf_list.specs.Keys.{bits}
+use Rattle.leaf_list.specs.Keys.{bits, firstDifference}
 use Rattle.leaf_list.specs.Search.{positions}
 use Rattle.leaf_list.specs.Entries.{entry}
 use Rattle.leaf_list.specs.Depths.{Unrepeated, LeafDepths}
@@ -16,6 +16,7 @@ use Rattle.page_tree.specs.Tree.{leaves}
 use Rattle.page_tree.specs.Walk.{rest}
 use Rattle.page_tree.specs.Finding.{findBelow}
 use Rattle.page_tree.proofs.WalkPlaces.{Passes, positionsAfter}
+use Rattle.index_table.specs.Header.{entriesOf}
 use Rattle.index_table.specs.Layout.{Ref, Within, layoutOf, pageStart}
 use Rattle.index_table.specs.Pages.{Pages, pagesAt, nodeAt, recordOf}
 use Rattle.index_table.specs.Soundness.{SoundBelow}
@@ -87,6 +88,10 @@ pub record Stopped (w key b τ : ℕ) (row : List Ref) (r : Spot) : Type 0 where
   pub high : r .position ≤ w + 1
   pub stops : (suc (r .at) ≡ length row) ⊎ (depthOf (getD row (r .at) (0, 0)) < r .position)
 
+-- The place at entry i, which follows the discriminator D, for the key's bits a and the depth τ before the page.
+abbrev pub spotAt : ℕ → ℕ → ℕ → ℕ → ℕ → Spot
+spotAt w a τ D i = record { at = i; position = firstDifference 0 (bits w a) (bits w D); trail = lastPosition w τ D }
+
 -- A sound page of level n whose last depth, closing, is before the position: figure 6 stops in it.
 pub record DescendPre (b : List ℕ) (e P n page w key position : ℕ) : Type 0 where
   pub closing : ℕ
@@ -118,5 +123,32 @@ pub record Descended (w key position τ n : ℕ) (pages : Pages) (page : ℕ) (r
   pub found :
       findBelow (suc n) (leftFrom w key position) τ (nodeAt 65535 (suc n) pages (0, page))
       ≡ (leftFrom w key next, r .trail, entry (r .depth) (recordOf 65535 (r .pointer)))
-  pub pointer-high : r .pointer ≤ 65535
   pub way : Way w key pages n page position τ r
+
+-- An entry of level 0 as one number: the depth before its page, the depth before it, its place in its page, and the page.
+abbrev pub placeNumber : ℕ → ℕ → ℕ → ℕ → ℕ
+placeNumber before trail at page = ((before * 256 + trail) * 256 + at) * 65536 + page
+
+abbrev pub placePage : ℕ → ℕ
+placePage r = r % 65536
+
+abbrev pub placeIn : ℕ → ℕ
+placeIn r = r / 65536 % 256
+
+-- The entry that such a number means.
+abbrev pub leafAt : Pages → ℕ → Leaf
+leafAt pages r =
+    record {
+      at = placeIn r;
+      pointer = getD (pages (placePage r)) (placeIn r) (0, 0) .1;
+      page = record { 0 = placePage r };
+      depth = getD (pages (placePage r)) (placeIn r) (0, 0) .0;
+      trail = r / 16777216 % 256;
+      before = r / 4294967296;
+    }
+
+-- It stands in the table.
+pub record PlaceIn (b : List ℕ) (r : ℕ) : Type 0 where
+  pub within : Within (layoutOf (entriesOf b)) b (placePage r)
+  pub inside : placeIn r < length (pagesAt (layoutOf (entriesOf b)) b (placePage r))
+  pub few : length (pagesAt (layoutOf (entriesOf b)) b (placePage r)) ≤ entriesOf b

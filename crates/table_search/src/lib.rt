@@ -1,10 +1,12 @@
 // Search in sound tables: figure 6 from the root down.
 ghost use mathlib.Core.Path.{_≡_};
-ghost use Prim.Native.Nat.{_-_, _%_, _^_, _≤_, _<_};
+ghost use mathlib.Core.Bool.{cond};
+ghost use Prim.Native.Nat.{_+_, _-_, _%_, _^_, _≤_, _<_};
+ghost use lib.Dec.{leb};
 ghost use Rattle.index_table.specs.Layout.{Within, layoutOf};
 ghost use Rattle.index_table.specs.Header.{widthOf, entriesOf, pagesOf};
 ghost use Rattle.index_table.specs.Pages.{pagesAt};
-ghost use Rattle.table_search.specs.Places.{ahead, firstPosition, lastBefore, lastPosition, NextPosition, SeekPre, Stopped, Ends, DescendPre, Descended};
+ghost use Rattle.table_search.specs.Places.{ahead, firstPosition, lastBefore, lastPosition, NextPosition, SeekPre, spotAt, Stopped, DescendPre, Descended, placeNumber, leafAt, PlaceIn};
 use index_table::layout::PageNo;
 use index_table::layout::child;
 use index_table::layout::count;
@@ -12,6 +14,7 @@ use index_table::layout::deep;
 use index_table::layout::depth;
 use index_table::layout::pointer;
 use index_table::layout::wide;
+use index_table::layout::wide16;
 use leaf_list::bit;
 use leaf_list::first_difference;
 
@@ -101,9 +104,35 @@ fn last_position(w: u64, number: u64, none: u64) -> u64
     w - u64::trailing_zeros(number) as u64
 }
 
+// The place at an entry that follows the discriminator disc. The key's bits ahead differ from it first at the next position, and its last one-bit is the
+// depth of the entry passed last.
+fn spot_at(w: u64, bits: u64, trail: u64, disc: u64, at: usize) -> Spot
+    requires { ⌜ (w ≤ 64) × (bits < 2 ^ w) × (disc < 2 ^ w) ⌝ }
+    ensures { λ r. ⌜ r ≡ spotAt w bits trail disc at ⌝ }
+{
+    Spot {
+        at,
+        position: first_difference(w, bits, disc),
+        trail: last_position(w, disc, trail),
+    }
+}
+
+// The place at an entry that follows the discriminator disc, or, where the key's bits are above the last number before its own, at the entry behind it.
+fn spot_of_two(w: u64, bits: u64, trail: u64, disc: u64, last: u64, at: usize) -> Spot
+    requires { ⌜ (w ≤ 64) × (bits < 2 ^ w) × (disc < 2 ^ w) × (at < 256) ⌝ }
+    ensures { λ r. ⌜ r ≡ cond (leb bits last) (spotAt w bits trail disc at) (spotAt w bits trail (last + 1) (at + 1)) ⌝ }
+{
+    let mut passed = disc;
+    let mut i = at;
+    if last < bits {
+        passed = last + 1;
+        i = at + 1;
+    }
+    spot_at(w, bits, trail, passed, i)
+}
+
 // The entry of a page at which figure 6 stops, begun at a position and with the depth before. In the page the discriminators of its own entries are
-// made, as if they were the whole list: figure 6 stops at the first that is above the key's bits from that position on. The one before it differs from
-// them first at the next position, and its last one-bit is the depth of the entry passed last.
+// made, as if they were the whole list: figure 6 stops at the first that is above the key's bits from that position on.
 pub fn seek(index: &[u8], e: u8, page: PageNo, w: u64, key: u64, position: u64, trail: u64) -> Spot
     requires { ⌜ SeekPre (now index) e (page .0) w key position ⌝ }
     ensures { λ r. ⌜ Stopped w key position trail (pagesAt (layoutOf e) (now (index .entry)) (page .0)) r ⌝ }
@@ -117,56 +146,57 @@ pub fn seek(index: &[u8], e: u8, page: PageNo, w: u64, key: u64, position: u64, 
         let first = last_before(w, ones, disc, deep(depth(index, e, page, i)));
         let second = last_before(w, ones, first + 1, deep(depth(index, e, page, i + 1)));
         if bits <= second {
-            break;
+            return spot_of_two(w, bits, trail, disc, first, i);
         }
         disc = second + 1;
         i += 2;
     }
     if i + 1 < n {
         let last = last_before(w, ones, disc, deep(depth(index, e, page, i)));
-        if last < bits {
-            disc = last + 1;
-            i += 1;
-        }
+        return spot_of_two(w, bits, trail, disc, last, i);
     }
-    Spot {
-        at: i,
-        position: first_difference(w, bits, disc),
-        trail: last_position(w, disc, trail),
-    }
+    spot_at(w, bits, trail, disc, i)
 }
 
-// The entry of a page of level 0 at which figure 6 stops.
-fn leaf_in(index: &[u8], e: u8, page: PageNo, w: u64, key: u64, position: u64, trail: u64) -> Leaf
-    requires { ⌜ SeekPre (now index) e (page .0) w key position ⌝ }
-    ensures { λ r. ⌜ Ends w key position trail (page .0) (pagesAt (layoutOf e) (now (index .entry)) (page .0)) r × (r .pointer ≤ 65535) ⌝ }
+// An entry on level 0 as one number: the depth before its page, the depth before it, its place in its page, and the page.
+fn place_number(before: u64, trail: u64, at: usize, page: PageNo) -> u64
+    requires { ⌜ (before ≤ 64) × (trail ≤ 64) × (at < 256) ⌝ }
+    ensures { λ r. ⌜ (r ≡ placeNumber before trail at (page .0)) × (page .0 ≤ 65535) ⌝ }
 {
-    let s = seek(index, e, page, w, key, position, trail);
-    let at = s.at;
+    ((before * 256 + trail) * 256 + at as u64) * 65536 + wide16(page.0) as u64
+}
+
+// From a page of a level down to the entry that figure 6 finds. The position list is carried on by its next position, and the depth before with it. The
+// entry is one number, and the slice is behind a reference: a struct and a slice would go through memory on each level.
+pub fn descend(index: &&[u8], level: u8, page: PageNo, key: u64, position: u64, trail: u64) -> u64
+    requires { ⌜ DescendPre (now (now index)) (entriesOf (now (now index))) (pagesOf (now (now index))) level (page .0) (widthOf (now (now index))) key position × (trail ≤ 64) × (entriesOf (now (now index)) ≤ 255) ⌝ }
+    ensures { λ r. ⌜ Descended (widthOf (now (now (index .entry)))) key position trail level (pagesAt (layoutOf (entriesOf (now (now (index .entry))))) (now (now (index .entry)))) (page .0) (leafAt (pagesAt (layoutOf (entriesOf (now (now (index .entry))))) (now (now (index .entry)))) r) × PlaceIn (now (now (index .entry))) r ⌝ }
+{
+    let table = *index;
+    let h = index_table::header::read(table);
+    let w = deep(h.width);
+    let s = seek(table, h.entries, page, w, key, position, trail);
+    if level == 0 {
+        return place_number(trail, s.trail, s.at, page);
+    }
+    let below = child(table, h.entries, page, s.at);
+    descend(index, level - 1, below, key, s.position, s.trail)
+}
+
+// The entry on level 0 that a number means.
+pub fn leaf_at(index: &[u8], place: u64) -> Leaf
+    requires { ⌜ PlaceIn (now index) place ⌝ }
+    ensures { λ r. ⌜ r ≡ leafAt (pagesAt (layoutOf (entriesOf (now (index .entry)))) (now (index .entry))) place ⌝ }
+{
+    let e = index_table::header::read(index).entries;
+    let page = PageNo((place % 65536) as u16);
+    let at = (place / 65536 % 256) as usize;
     Leaf {
         at,
         pointer: pointer(index, e, page, at),
         page,
         depth: deep(depth(index, e, page, at)),
-        trail: s.trail,
-        before: trail,
+        trail: place / 16777216 % 256,
+        before: place / 4294967296,
     }
-}
-
-// From a page of a level down to the entry that figure 6 finds. The position list is carried on by its next position, and the depth before with it.
-// The slice goes down as a part of itself, all of it: handed on as it is, it would be copied at each level. W and E are read on each level: handed
-// down, they would go through memory.
-pub fn descend(index: &[u8], level: u8, page: PageNo, key: u64, position: u64, trail: u64) -> Leaf
-    requires { ⌜ DescendPre (now index) (entriesOf (now index)) (pagesOf (now index)) level (page .0) (widthOf (now index)) key position ⌝ }
-    ensures { λ r. ⌜ Descended (widthOf (now (index .entry))) key position trail level (pagesAt (layoutOf (entriesOf (now (index .entry)))) (now (index .entry))) (page .0) r ⌝ }
-{
-    let h = index_table::header::read(index);
-    let e = h.entries;
-    let w = deep(h.width);
-    if level == 0 {
-        return leaf_in(index, e, page, w, key, position, trail);
-    }
-    let s = seek(index, e, page, w, key, position, trail);
-    let below = child(index, e, page, s.at);
-    descend(&index[0..], level - 1, below, key, s.position, s.trail)
 }

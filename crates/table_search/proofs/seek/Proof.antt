@@ -9,7 +9,7 @@ use Rattle.index_table.specs.Layout.{layoutOf}
 use Rattle.index_table.specs.Pages.{pagesAt}
 use Rattle.index_table.proofs.PageRows.{length-refs}
 use Rattle.table_search.proofs.Stops.{depth-inner, read-depth}
-use Rattle.table_search.proofs.PageSearches.{SeekingBy, Ends, ended, seek-begun, bits-low, disc-low, seek-fits, seek-two, halt-here, halt-last, halt-next, halt-second, seek-stops}
+use Rattle.table_search.proofs.PageSearches.{SeekingBy, seek-begun, bits-low, disc-low, seek-fits, seek-two, halt-last, halt-next, halt-second, stop-at, stop-of-two}
 use borrow.Author.Needs.{needs}
 use Rattle.table_search.proofs.seek.Statement.{statement}
 use Rattle.table_search.proofs.seek.Tie as tie
@@ -80,6 +80,26 @@ last-before-requires-2 c κs =
     let d = c .deep2 .ensures ∙ c .before .depth2 .ensures in
     (pre .width, at .before .bits-behind-first .ensures, depth-inner _ _ pre (omega (arith, at .loop .inv .0)) d, read-depth _ _ pre (omega (arith, at .loop .inv .0)) d .0)
 
+spot-of-two-requires : tie.Need-spot-of-two-requires Inv-loop μ-loop
+spot-of-two-requires c κs =
+    let at = c .before .before .before .before .before .before .before .before in
+    let pre = at .before .before .before .before .before .before .pre in
+    let by = at .loop .inv .1 in
+    (pre .width, bits-low (pre .width) (pre .low) by, disc-low (pre .width) (pre .low) by, omega (arith, by .seeking .inside, at .loop .inv .0, at .before .before .before .wide .ensures .1))
+
+returns : tie.Need-returns Inv-loop μ-loop
+returns c =
+    let second = c .before .before in
+    let first = second .before .before .before in
+    let at = first .before .before .before .before in
+    let pre = at .before .before .before .before .before .before .pre in
+    let inv = at .loop .inv in
+    let read = read-depth _ _ pre (inv .1 .seeking .inside) (first .before .deep .ensures ∙ first .before .before .depth .ensures) in
+    let read2 = read-depth _ _ pre (omega (arith, inv .0)) (second .before .deep2 .ensures ∙ second .before .before .depth2 .ensures) in
+    stop-of-two (pre .width) (pre .low) (inv .1) (read .0) (read .1) _ (first .last-before .ensures)
+    (halt-second (pre .width) (pre .low) (inv .1) (read .0) (read .1) (read2 .0) (read2 .1) _ _ (first .last-before .ensures) (second .last-before2 .ensures) (omega (arith, inv .0)) (c .before .if1 .taken)) _
+    (c .spot-of-two .ensures)
+
 add-disc : tie.Need-add-disc Inv-loop μ-loop
 add-disc c = search needs
 
@@ -118,53 +138,37 @@ last-before-requires-3 c κs =
     let d = c .deep3 .ensures ∙ c .before .depth3 .ensures in
     (pre .width, at .before .bits-behind-first .ensures, depth-inner _ _ pre (omega (arith, at .loop .inv .0)) d, read-depth _ _ pre (at .loop .inv .1 .seeking .inside) d .0)
 
-add-disc-2 : tie.Need-add-disc-2 Inv-loop μ-loop
-add-disc-2 c = search needs
+spot-of-two-requires-2 : tie.Need-spot-of-two-requires-2 Inv-loop μ-loop
+spot-of-two-requires-2 c κs =
+    let at = c .before .before .before .before .before in
+    let pre = at .before .before .before .before .before .before .pre in
+    let by = at .loop .inv .1 in
+    (pre .width, bits-low (pre .width) (pre .low) by, disc-low (pre .width) (pre .low) by, omega (arith, by .seeking .inside, at .loop .inv .0, at .before .before .before .wide .ensures .1))
 
-add-i-2 : tie.Need-add-i-2 Inv-loop μ-loop
-add-i-2 c = search needs
-
--- The search has ended.
-halted : (c : tie.Joined2 Inv-loop μ-loop) → Ends (c .before .before .loop .inv .1) (c .if2 .disc) (c .if2 .i)
-halted c =
-    let at = c .before .before in
+returns-2 : tie.Need-returns-2 Inv-loop μ-loop
+returns-2 c =
+    let last = c .before in
+    let if2 = last .before .before .before in
+    let at = if2 .before .before in
     let pre = at .before .before .before .before .before .before .pre in
     let inv = at .loop .inv in
-    ⊎-elim
-    (λ x.
-    let read = read-depth _ _ pre (inv .1 .seeking .inside) (x .2 .ensures ∙ x .1 .ensures) in
-    ended
-    (⊎-elim
-    (λ y. halt-next (pre .width) (pre .low) (inv .1) (read .0) (read .1) _ (x .3 .ensures) (omega (arith, inv .0, x .0 .taken)) (omega (arith, inv .0, y .left)) (x .4 .taken))
-    (λ y.
-    let first = read-depth _ _ pre (inv .1 .seeking .inside) (y .2 .ensures ∙ y .1 .ensures) in
-    let second = read-depth _ _ pre (omega (arith, inv .0, x .0 .taken)) (y .5 .ensures ∙ y .4 .ensures) in
-    halt-second (pre .width) (pre .low) (inv .1) (first .0) (first .1) (second .0) (second .1) _ _ (y .3 .ensures) (y .6 .ensures) (read .1) _ (x .3 .ensures) (omega (arith, inv .0, x .0 .taken)) (x .4 .taken) (y .7 .taken))
-    (c .before .loop-test .came))
-    (x .5)
-    (x .6))
-    (⊎-elim
-    (λ x.
-    let read = read-depth _ _ pre (inv .1 .seeking .inside) (x .2 .ensures ∙ x .1 .ensures) in
-    ended (halt-here (pre .width) (pre .low) (inv .1) (read .0) (read .1) (omega (arith, x .3 .ensures, x .4 .left))) (x .5) (x .6))
-    (λ x. ended (halt-last (pre .width) (pre .low) (inv .1) (omega (arith, inv .0, x .0 .left))) (x .1) (x .2)))
-    (c .if2 .came)
+    let read = read-depth _ _ pre (inv .1 .seeking .inside) (last .before .deep3 .ensures ∙ last .before .before .depth3 .ensures) in
+    stop-of-two (pre .width) (pre .low) (inv .1) (read .0) (read .1) _ (last .last-before3 .ensures)
+    (halt-next (pre .width) (pre .low) (inv .1) (read .0) (read .1) _ (last .last-before3 .ensures) (omega (arith, inv .0, if2 .if2 .taken)) (omega (arith, inv .0, if2 .before .loop-test .left))) _
+    (c .spot-of-two2 .ensures)
 
-first-difference-requires : tie.Need-first-difference-requires Inv-loop μ-loop
-first-difference-requires c κs =
-    let pre = c .before .before .before .before .before .before .before .before .pre in
-    (pre .width, bits-low (pre .width) (pre .low) (halted c .by), disc-low (pre .width) (pre .low) (halted c .by))
-
-last-position-requires : tie.Need-last-position-requires Inv-loop μ-loop
-last-position-requires c κs =
-    let pre = c .before .before .before .before .before .before .before .before .before .pre in
-    (pre .width, disc-low (pre .width) (pre .low) (halted (c .before) .by))
-
-returns : tie.Need-returns Inv-loop μ-loop
-returns c =
+spot-at-requires : tie.Need-spot-at-requires Inv-loop μ-loop
+spot-at-requires c κs =
     let at = c .before .before in
-    let pre = at .before .before .before .before .before .before .before .before .pre in
-    seek-stops (pre .width) (pre .low) (halted at) _ _ (c .before .first-difference .ensures .0) (c .last-position .ensures)
+    let pre = at .before .before .before .before .before .before .pre in
+    (pre .width, bits-low (pre .width) (pre .low) (at .loop .inv .1), disc-low (pre .width) (pre .low) (at .loop .inv .1))
+
+returns-3 : tie.Need-returns-3 Inv-loop μ-loop
+returns-3 c =
+    let at = c .before .before .before in
+    let pre = at .before .before .before .before .before .before .pre in
+    let inv = at .loop .inv in
+    stop-at (pre .width) (pre .low) (halt-last (pre .width) (pre .low) (inv .1) (omega (arith, inv .0, c .before .if2 .left))) _ (c .spot-at .ensures)
 
 pub seek-spec : {M : Type 1} → statement M
 seek-spec =
@@ -186,6 +190,8 @@ seek-spec =
     depth-requires-2
     deep-requires-2
     last-before-requires-2
+    spot-of-two-requires
+    returns
     add-disc
     add-i
     loop-less
@@ -194,8 +200,7 @@ seek-spec =
     depth-requires-3
     deep-requires-3
     last-before-requires-3
-    add-disc-2
-    add-i-2
-    first-difference-requires
-    last-position-requires
-    returns)
+    spot-of-two-requires-2
+    returns-2
+    spot-at-requires
+    returns-3)
