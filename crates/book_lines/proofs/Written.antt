@@ -2,7 +2,7 @@
 use mathlib.Core.Path.{_≡_, refl, ap, ap₂, _∙_}
 use mathlib.Core.Bool.{Bool, true, false, cond}
 use mathlib.Core.List.{List, [], _∷_, _++_}
-use Prim.Native.Nat.{ℕ, zero, suc, _+_, _*_, _-_, _/_, _%_, _^_, _≤_, _<_}
+use Prim.Native.Nat.{ℕ, zero, suc, _+_, _*_, _/_, _%_, _^_, _≤_, _<_}
 use native.Mathlib.Omega.{arith}
 use native.Mathlib.Nat.{add-mul, mul-assoc, pow-zero, pow-succ', one-le-pow, mod-lt, div-add-mod', div-lt-iff-lt-mul}
 use lib.Dec.{ltb}
@@ -10,9 +10,7 @@ use lib.ListN.{length, length-append}
 use borrow.Author.Tests.{lt-ltb, ltb-true, ltb-false, ne-eqb}
 use Rattle.tag_code.specs.TagCode.{bitsOf, unpacked}
 use Rattle.tag_code.proofs.Codes.{unpack-accepts}
-use Rattle.book_tags.specs.declared.digits.Number.{Number}
 use Rattle.book_tags.specs.declared.digits.Number.the-variants as number
-use Rattle.book_tags.specs.declared.Tag.{Tag}
 use Rattle.book_tags.specs.declared.Tag.the-variants as tag
 use Rattle.book_tags.specs.Tags.{digitOf, numberAfter, numberOf, hexadecimalTag, tagOf, recordOf}
 use Rattle.book_tags.proofs.NumberLaws.{digit-decimal, digit-letter}

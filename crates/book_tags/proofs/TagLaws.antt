@@ -10,7 +10,6 @@ use Rattle.tag_code.specs.declared.Unpacked.{Unpacked}
 use Rattle.tag_code.specs.TagCode.{packed, unpacked}
 use Rattle.book_tags.specs.declared.digits.Number.{Number}
 use Rattle.book_tags.specs.declared.digits.Number.the-variants as number
-use Rattle.book_tags.specs.declared.Tag.{Tag}
 use Rattle.book_tags.specs.declared.Tag.the-variants as tag
 use Rattle.book_tags.specs.Tags.{numberOf, decimalFields, decimalTag, hexadecimalTag, tagOf, recordOf}
 

@@ -1,10 +1,10 @@
 -- No depth of a written trie comes again before a shallower one has come; parts of such a list are such lists. Assumes nothing.
-use mathlib.Core.Logic.{_⊎_, inl, inr}
+use mathlib.Core.Logic.{inl, inr}
 use mathlib.Core.Option.{Option, none, some}
 use mathlib.Core.List.{List, [], _∷_, _++_}
 use Prim.Native.Nat.{ℕ, suc, _≤_, _<_}
 use native.Mathlib.Omega.{arith}
-use Rattle.leaf_list.specs.Entries.{Entry, entry, depthOf}
+use Rattle.leaf_list.specs.Entries.{Entry, depthOf}
 use Rattle.leaf_list.specs.Depths.{Unmatched, Unrepeated}
 use Rattle.leaf_list.specs.Trie.{Trie, leaf, zero-only, one-only, fork, write, writeAll}
 

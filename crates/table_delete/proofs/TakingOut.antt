@@ -11,7 +11,7 @@ use Rattle.leaf_list.specs.Search.{positions}
 use Rattle.leaf_list.proofs.Positions.{positions-beyond, positions-rise}
 use Rattle.page_tree.specs.Rows.{lastDepth}
 use Rattle.page_tree.specs.Row.{depthOf}
-use Rattle.page_tree.specs.Tree.{Node, depth}
+use Rattle.page_tree.specs.Tree.{Node}
 use Rattle.page_tree.specs.OffPages.{Left, deleteBelow, lower}
 use Rattle.page_tree.specs.Numbered.{Numbered, aside, treeAside, deleteNumbered, lowerNumbered, rootedNumbered}
 use Rattle.page_tree.proofs.NumberedLaws.{delete-aside, lower-aside}

@@ -21,7 +21,7 @@ use Rattle.leaf_list.proofs.Bits.{sameKey-refl, sameKey-bits}
 use Rattle.leaf_list.proofs.RegisterHerd.{herdOf-is}
 use Rattle.leaf_list.proofs.Lists.{All}
 use Rattle.page_tree.specs.Rows.{Closed}
-use Rattle.page_tree.specs.Tree.{Tree, depth, leaves}
+use Rattle.page_tree.specs.Tree.{Tree, depth}
 use Rattle.page_tree.specs.Finding.{findIn, findFlat}
 use Rattle.page_tree.proofs.FindingLaws.{findIn-leaves, findFlat-search}
 use Rattle.index_table.specs.Layout.{layoutOf, Within, pageBytes, levelOf}
@@ -34,12 +34,12 @@ use Rattle.index_table.proofs.Pointers.{record-nil, record-live}
 use Rattle.index_table.proofs.SoundNodes.{sound-tree, tree-depth}
 use Rattle.index_table.proofs.SoundTables.{keys-narrow, in-use-inside, herd-narrow, herd-sorted, herd-keys, table-long, root-within, leaf-depths}
 use Rattle.table_search.specs.declared.Leaf.{Leaf}
-use Rattle.table_search.specs.Places.{leftFrom, NextPosition, DescendPre, Descended, leafAt}
+use Rattle.table_search.specs.Places.{leftFrom, NextPosition, DescendPre, Descended, placeLeaf}
 use Rattle.table_find.specs.Places.{FoundLeaf, FoundPlace}
 use Rattle.table_find.specs.Answers.{plain, withRecord, found}
 
 -- The entry at a place that was found.
-pub found-at : {index keys used : List ℕ} {key place : ℕ} {leaf : Leaf} → FoundPlace index keys used key place → leaf ≡ leafAt (pagesAt (layoutOf (entriesOf index)) index) place → FoundLeaf index keys used key leaf
+pub found-at : {index keys used : List ℕ} {key place : ℕ} {leaf : Leaf} → FoundPlace index keys used key place → leaf ≡ placeLeaf index place → FoundLeaf index keys used key leaf
 found-at {index} {keys} {used} {key} p e = subst (FoundLeaf index keys used key) (sym e) (p .leaf)
 
 -- The records of the live entries are in use.

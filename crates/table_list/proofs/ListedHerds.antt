@@ -18,7 +18,7 @@ use Rattle.leaf_list.proofs.LiveRecords.{liveRecords-append}
 use Rattle.leaf_list.proofs.Positions.{Beyond, positions-rise, positions-beyond}
 use Rattle.leaf_list.proofs.Indexed.{foundIndex}
 use Rattle.leaf_list.proofs.Lists.{All, all-weaker}
-use Rattle.page_tree.specs.Tree.{Tree, leaves}
+use Rattle.page_tree.specs.Tree.{Tree}
 use Rattle.index_table.specs.Layout.{layoutOf, pageBytes, levelOf}
 use Rattle.index_table.specs.Header.{widthOf, entriesOf, pagesOf, rootOf}
 use Rattle.index_table.specs.Pages.{pagesAt, treeAt}

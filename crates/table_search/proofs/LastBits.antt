@@ -1,11 +1,10 @@
 -- The last one-bit of a number, by the zeros behind it. Assumes nothing.
-use mathlib.Core.Path.{_≡_, refl, sym, ap, _∙_}
+use mathlib.Core.Path.{_≡_, sym, ap, _∙_}
 use mathlib.Core.Logic.{_⊎_, inl, inr}
-use Prim.Native.Nat.{ℕ, zero, suc, _+_, _-_, _*_, _/_, _%_, _^_, _≤_, _<_}
+use Prim.Native.Nat.{ℕ, zero, suc, _*_, _/_, _%_, _^_, _≤_, _<_}
 use native.Mathlib.Omega.{arith}
-use native.Mathlib.Nat.{mod-lt, eq-zero-or-pos, mul-one, mul-assoc, pow-suc}
+use native.Mathlib.Nat.{eq-zero-or-pos, mul-one, mul-assoc, pow-suc}
 use lib.Count.{trailingZeros}
-use lib.Pow.{pow-pos, split}
 use Rattle.table_search.proofs.BitsAhead.{double}
 
 -- An odd number, k bits up, has k zeros behind it.

@@ -1,16 +1,15 @@
 -- A place on level 0 as one number. Assumes nothing.
-use mathlib.Core.Path.{_≡_, refl, sym, ap, subst, _∙_}
+use mathlib.Core.Path.{_≡_, sym, ap, subst}
 use mathlib.Core.List.{List, [], _∷_}
-use Prim.Native.Nat.{ℕ, zero, suc, _+_, _*_, _/_, _%_, _≤_, _<_}
+use Prim.Native.Nat.{ℕ, zero, suc, _/_, _%_, _≤_, _<_}
 use native.Mathlib.Omega.{arith}
-use lib.ListN.{length, getD, take}
-use Rattle.page_tree.specs.Rows.{All, lastDepth}
+use lib.ListN.{length, getD}
+use Rattle.page_tree.specs.Rows.{All}
 use Rattle.index_table.specs.Header.{entriesOf}
 use Rattle.index_table.specs.Layout.{Ref, Within, layoutOf, pageBytes, refAt}
-use Rattle.index_table.specs.Pages.{Pages, pagesAt}
-use Rattle.table_search.specs.declared.Leaf.{Leaf}
+use Rattle.index_table.specs.Pages.{pagesAt}
 use Rattle.table_search.specs.declared.Spot.{Spot}
-use Rattle.table_search.specs.Places.{depthOf, SeekPre, Stopped, Ends, placeNumber, placePage, placeIn, leafAt, PlaceIn}
+use Rattle.table_search.specs.Places.{SeekPre, Stopped, Ends, placeNumber, placePage, placeAt, leafAt, PlaceStands}
 use Rattle.table_search.proofs.Stops.{depthBefore, read-entry}
 
 -- The depth before an entry is one of the row's, or the one before the row.
@@ -24,7 +23,7 @@ module _ (before trail at page r : ℕ) (is : r ≡ placeNumber before trail at 
   page-of : placePage r ≡ page
   page-of = omega (arith, is)
 
-  at-of : placeIn r ≡ at
+  at-of : placeAt r ≡ at
   at-of = omega (arith, is)
 
   trail-of : r / 16777216 % 256 ≡ trail
@@ -49,7 +48,7 @@ module _ {b : List ℕ} {e page w key position τ : ℕ} (pre : SeekPre b e page
     page-is : page ≡ placePage r
     page-is = sym (page-of τ (s .trail) (s .at) page r is trail-short stop-low page-low)
 
-    at-is : s .at ≡ placeIn r
+    at-is : s .at ≡ placeAt r
     at-is = sym (at-of τ (s .trail) (s .at) page r is trail-short stop-low page-low)
 
     trail-is : s .trail ≡ r / 16777216 % 256
@@ -61,11 +60,11 @@ module _ {b : List ℕ} {e page w key position τ : ℕ} (pre : SeekPre b e page
           page-is = sym page-is;
           next = s .position;
           place = subst (λ (x : ℕ × ℕ). Stopped w key position τ (pagesAt (layoutOf e) b page) (record { at = x .0; position = s .position; trail = x .1 })) (λ i. (at-is i, trail-is i)) stop;
-          entry-is = ap (λ (p : ℕ). getD (pagesAt (layoutOf e) b p) (placeIn r) (0, 0)) page-is;
+          entry-is = ap (λ (p : ℕ). getD (pagesAt (layoutOf e) b p) (placeAt r) (0, 0)) page-is;
           before-is = before-of τ (s .trail) (s .at) page r is trail-short stop-low page-low;
         }
 
-    pub place-in : e ≡ entriesOf b → PlaceIn b r
+    pub place-in : e ≡ entriesOf b → PlaceStands b r
     place-in q =
         record {
           within = subst (λ (x : ℕ × ℕ). Within (layoutOf (x .0)) b (x .1)) (λ i. (q i, page-is i)) (pre .within);
@@ -74,9 +73,9 @@ module _ {b : List ℕ} {e page w key position τ : ℕ} (pre : SeekPre b e page
         }
 
 -- It can be read with the header's number of entries as the code holds it.
-module _ {b : List ℕ} {r e : ℕ} (p : PlaceIn b r) (is : e ≡ entriesOf b) where
-  pub place-within : Within (layoutOf e) b (placePage r) × (placeIn r < e)
+module _ {b : List ℕ} {r e : ℕ} (p : PlaceStands b r) (is : e ≡ entriesOf b) where
+  pub place-within : Within (layoutOf e) b (placePage r) × (placeAt r < e)
   place-within = rw is (p .within, omega (arith, p .inside, p .few))
 
-  pub place-entry : refAt (layoutOf e) (pageBytes (layoutOf e) b (placePage r)) (placeIn r) ≡ getD (pagesAt (layoutOf (entriesOf b)) b (placePage r)) (placeIn r) (0, 0)
-  place-entry = rw is (read-entry (layoutOf (entriesOf b)) b (placePage r) (placeIn r) (p .inside))
+  pub place-entry : refAt (layoutOf e) (pageBytes (layoutOf e) b (placePage r)) (placeAt r) ≡ getD (pagesAt (layoutOf (entriesOf b)) b (placePage r)) (placeAt r) (0, 0)
+  place-entry = rw is (read-entry (layoutOf (entriesOf b)) b (placePage r) (placeAt r) (p .inside))

@@ -16,7 +16,7 @@ use Rattle.page_tree.specs.Tree.{leaves}
 use Rattle.page_tree.specs.Walk.{rest}
 use Rattle.page_tree.specs.Finding.{findBelow}
 use Rattle.page_tree.proofs.WalkPlaces.{Passes, positionsAfter}
-use Rattle.index_table.specs.Header.{entriesOf}
+use Rattle.index_table.specs.Header.{widthOf, entriesOf, pagesOf}
 use Rattle.index_table.specs.Layout.{Ref, Within, layoutOf, pageStart}
 use Rattle.index_table.specs.Pages.{Pages, pagesAt, nodeAt, recordOf}
 use Rattle.index_table.specs.Soundness.{SoundBelow}
@@ -129,26 +129,42 @@ pub record Descended (w key position τ n : ℕ) (pages : Pages) (page : ℕ) (r
 abbrev pub placeNumber : ℕ → ℕ → ℕ → ℕ → ℕ
 placeNumber before trail at page = ((before * 256 + trail) * 256 + at) * 65536 + page
 
+-- The page and the place in it that such a number means,
 abbrev pub placePage : ℕ → ℕ
 placePage r = r % 65536
 
-abbrev pub placeIn : ℕ → ℕ
-placeIn r = r / 65536 % 256
+abbrev pub placeAt : ℕ → ℕ
+placeAt r = r / 65536 % 256
 
--- The entry that such a number means.
+-- and the entry there.
 abbrev pub leafAt : Pages → ℕ → Leaf
 leafAt pages r =
     record {
-      at = placeIn r;
-      pointer = getD (pages (placePage r)) (placeIn r) (0, 0) .1;
+      at = placeAt r;
+      pointer = getD (pages (placePage r)) (placeAt r) (0, 0) .1;
       page = record { 0 = placePage r };
-      depth = getD (pages (placePage r)) (placeIn r) (0, 0) .0;
+      depth = getD (pages (placePage r)) (placeAt r) (0, 0) .0;
       trail = r / 16777216 % 256;
       before = r / 4294967296;
     }
 
+-- The same in an index table.
+abbrev pub placeLeaf : List ℕ → ℕ → Leaf
+placeLeaf b r = leafAt (pagesAt (layoutOf (entriesOf b)) b) r
+
 -- It stands in the table.
-pub record PlaceIn (b : List ℕ) (r : ℕ) : Type 0 where
+pub record PlaceStands (b : List ℕ) (r : ℕ) : Type 0 where
   pub within : Within (layoutOf (entriesOf b)) b (placePage r)
-  pub inside : placeIn r < length (pagesAt (layoutOf (entriesOf b)) b (placePage r))
+  pub inside : placeAt r < length (pagesAt (layoutOf (entriesOf b)) b (placePage r))
   pub few : length (pagesAt (layoutOf (entriesOf b)) b (placePage r)) ≤ entriesOf b
+
+-- A page of level n from which the descent can begin, with the depth τ before it.
+pub record ReachPre (b : List ℕ) (n page key position τ : ℕ) : Type 0 where
+  pub page-is : DescendPre b (entriesOf b) (pagesOf b) n page (widthOf b) key position
+  pub trail-low : τ ≤ 64
+  pub entries-high : entriesOf b ≤ 255
+
+-- The entry that it comes to, by its number.
+pub record Reached (b : List ℕ) (n page key position τ r : ℕ) : Type 0 where
+  pub leaf : Descended (widthOf b) key position τ n (pagesAt (layoutOf (entriesOf b)) b) page (placeLeaf b r)
+  pub stands : PlaceStands b r

@@ -3,10 +3,9 @@ ghost use mathlib.Core.Path.{_≡_};
 ghost use mathlib.Core.Bool.{cond};
 ghost use Prim.Native.Nat.{_+_, _-_, _%_, _^_, _≤_, _<_};
 ghost use lib.Dec.{leb};
-ghost use Rattle.index_table.specs.Layout.{Within, layoutOf};
-ghost use Rattle.index_table.specs.Header.{widthOf, entriesOf, pagesOf};
+ghost use Rattle.index_table.specs.Layout.{layoutOf};
 ghost use Rattle.index_table.specs.Pages.{pagesAt};
-ghost use Rattle.table_search.specs.Places.{ahead, firstPosition, lastBefore, lastPosition, NextPosition, SeekPre, spotAt, Stopped, DescendPre, Descended, placeNumber, leafAt, PlaceIn};
+ghost use Rattle.table_search.specs.Places.{ahead, firstPosition, lastBefore, lastPosition, NextPosition, SeekPre, spotAt, Stopped, placeNumber, placeLeaf, PlaceStands, ReachPre, Reached};
 use index_table::layout::PageNo;
 use index_table::layout::child;
 use index_table::layout::count;
@@ -93,7 +92,7 @@ fn last_before(w: u64, ones: u64, disc: u64, d: u64) -> u64
     disc | (ones >> (d - 1))
 }
 
-// The position of the last one-bit of a number of w bits; none where there is none.
+// The position of the last one-bit of a number of w bits; `none` where it has no one-bit.
 fn last_position(w: u64, number: u64, none: u64) -> u64
     requires { ⌜ (w ≤ 64) × (number < 2 ^ w) ⌝ }
     ensures { λ r. ⌜ r ≡ lastPosition w none number ⌝ }
@@ -169,8 +168,8 @@ fn place_number(before: u64, trail: u64, at: usize, page: PageNo) -> u64
 // From a page of a level down to the entry that figure 6 finds. The position list is carried on by its next position, and the depth before with it. The
 // entry is one number, and the slice is behind a reference: a struct and a slice would go through memory on each level.
 pub fn descend(index: &&[u8], level: u8, page: PageNo, key: u64, position: u64, trail: u64) -> u64
-    requires { ⌜ DescendPre (now (now index)) (entriesOf (now (now index))) (pagesOf (now (now index))) level (page .0) (widthOf (now (now index))) key position × (trail ≤ 64) × (entriesOf (now (now index)) ≤ 255) ⌝ }
-    ensures { λ r. ⌜ Descended (widthOf (now (now (index .entry)))) key position trail level (pagesAt (layoutOf (entriesOf (now (now (index .entry))))) (now (now (index .entry)))) (page .0) (leafAt (pagesAt (layoutOf (entriesOf (now (now (index .entry))))) (now (now (index .entry)))) r) × PlaceIn (now (now (index .entry))) r ⌝ }
+    requires { ⌜ ReachPre (now (now index)) level (page .0) key position trail ⌝ }
+    ensures { λ r. ⌜ Reached (now (now (index .entry))) level (page .0) key position trail r ⌝ }
 {
     let table = *index;
     let h = index_table::header::read(table);
@@ -185,8 +184,8 @@ pub fn descend(index: &&[u8], level: u8, page: PageNo, key: u64, position: u64, 
 
 // The entry on level 0 that a number means.
 pub fn leaf_at(index: &[u8], place: u64) -> Leaf
-    requires { ⌜ PlaceIn (now index) place ⌝ }
-    ensures { λ r. ⌜ r ≡ leafAt (pagesAt (layoutOf (entriesOf (now (index .entry)))) (now (index .entry))) place ⌝ }
+    requires { ⌜ PlaceStands (now index) place ⌝ }
+    ensures { λ r. ⌜ r ≡ placeLeaf (now (index .entry)) place ⌝ }
 {
     let e = index_table::header::read(index).entries;
     let page = PageNo((place % 65536) as u16);

@@ -1,15 +1,15 @@
 -- Level by level: the page is searched, and on level 0 the entry is the answer. Assumes nothing.
 use borrow.Author.Needs.{needs}
-use mathlib.Core.Path.{_≡_, refl, sym, subst, _∙_}
+use mathlib.Core.Path.{_≡_, _∙_}
 use mathlib.Core.List.{List}
 use native.Mathlib.Omega.{arith}
-use Rattle.index_table.specs.Header.{widthOf, entriesOf, pagesOf}
+use Rattle.index_table.specs.Header.{widthOf, entriesOf}
 use Rattle.index_table.specs.Layout.{layoutOf}
 use Rattle.index_table.specs.Pages.{pagesAt}
 use Rattle.table_search.specs.Places.{DescendPre, Descended, leafAt}
 use Rattle.table_search.proofs.PlaceNumbers.{stop-trail, stop-low, place-ends, place-in}
 use Rattle.table_search.proofs.Descents.{descend-within, descend-seek, descend-inside, descend-leaf, descend-down, descend-up}
-use Prim.Native.Nat.{ℕ, _-_, _<_}
+use Prim.Native.Nat.{ℕ, _≤_, _<_}
 use borrow.Fn.Kinds.{In}
 use borrow.Fn.PlainCycle.{Measures, is, falls, and}
 use Rattle.table_search.proofs.descend.Reads as descend
@@ -66,7 +66,7 @@ descend-claims t = (
 )
 
 descend-read-requires : (t : ℕ) → descend-lts.Need-read-requires (descend-claims t) (descend-at t) descend.Post
-descend-read-requires t c κs = omega (arith, c .before .pre .1 .0 .table)
+descend-read-requires t c κs = omega (arith, c .before .pre .1 .page-is .table)
 
 descend-deep-requires : (t : ℕ) → descend-lts.Need-deep-requires (descend-claims t) (descend-at t) descend.Post
 descend-deep-requires t c κs = search needs
@@ -74,16 +74,16 @@ descend-deep-requires t c κs = search needs
 descend-seek-requires : (t : ℕ) → descend-lts.Need-seek-requires (descend-claims t) (descend-at t) descend.Post
 descend-seek-requires t c κs =
     let read = c .before in
-    descend-seek (held _ (read .read .ensures .entries) (c .deep .ensures ∙ read .read .ensures .width) (read .before .before .pre .1 .0))
+    descend-seek (held _ (read .read .ensures .entries) (c .deep .ensures ∙ read .read .ensures .width) (read .before .before .pre .1 .page-is))
 
 descend-place-number-requires : (t : ℕ) → descend-lts.Need-place-number-requires (descend-claims t) (descend-at t) descend.Post
 descend-place-number-requires t c κs =
     let deep = c .before .before in
     let read = deep .before in
     let start = read .before .before in
-    let pre = descend-seek (held _ (read .read .ensures .entries) (deep .deep .ensures ∙ read .read .ensures .width) (start .pre .1 .0)) in
-    let low = start .pre .1 .1 in
-    (low, stop-trail pre _ (c .before .seek .ensures) low (omega (arith, read .read .ensures .entries, start .pre .1 .2)), stop-low pre _ (c .before .seek .ensures) low (omega (arith, read .read .ensures .entries, start .pre .1 .2)))
+    let pre = descend-seek (held _ (read .read .ensures .entries) (deep .deep .ensures ∙ read .read .ensures .width) (start .pre .1 .page-is)) in
+    let low = start .pre .1 .trail-low in
+    (low, stop-trail pre _ (c .before .seek .ensures) low (omega (arith, read .read .ensures .entries, start .pre .1 .entries-high)), stop-low pre _ (c .before .seek .ensures) low (omega (arith, read .read .ensures .entries, start .pre .1 .entries-high)))
 
 descend-returns : (t : ℕ) → descend-lts.Need-returns (descend-claims t) (descend-at t) descend.Post
 descend-returns t c =
@@ -93,18 +93,20 @@ descend-returns t c =
     let start = read .before .before in
     let he = read .read .ensures .entries in
     let hw = deep .deep .ensures ∙ read .read .ensures .width in
-    let pre = held _ he hw (start .pre .1 .0) in
+    let pre = held _ he hw (start .pre .1 .page-is) in
     let is = c .place-number .ensures in
-    let low = start .pre .1 .1 in (
-      up _ he hw _ (descend-leaf _ pre (c .before .if1 .taken) _ (place-ends (descend-seek pre) _ (seek .seek .ensures) low (omega (arith, read .read .ensures .entries, start .pre .1 .2)) _ (is .0) (is .1))),
-      place-in (descend-seek pre) _ (seek .seek .ensures) low (omega (arith, read .read .ensures .entries, start .pre .1 .2)) _ (is .0) (is .1) he,
-    )
+    let low = start .pre .1 .trail-low in
+    let few : read .read .result .entries ≤ 255 = omega (arith, he, start .pre .1 .entries-high) in
+    record {
+      leaf = up _ he hw _ (descend-leaf _ pre (c .before .if1 .taken) _ (place-ends (descend-seek pre) _ (seek .seek .ensures) low few _ (is .0) (is .1)));
+      stands = place-in (descend-seek pre) _ (seek .seek .ensures) low few _ (is .0) (is .1) he;
+    }
 
 descend-child-requires : (t : ℕ) → descend-lts.Need-child-requires (descend-claims t) (descend-at t) descend.Post
 descend-child-requires t c κs =
     let deep = c .before .before in
     let read = deep .before in
-    let pre = held _ (read .read .ensures .entries) (deep .deep .ensures ∙ read .read .ensures .width) (read .before .before .pre .1 .0) in
+    let pre = held _ (read .read .ensures .entries) (deep .deep .ensures ∙ read .read .ensures .width) (read .before .before .pre .1 .page-is) in
     (descend-within pre, descend-inside pre _ (c .before .seek .ensures))
 
 descend-sub-descend : (t : ℕ) → descend-lts.Need-sub-descend (descend-claims t) (descend-at t) descend.Post
@@ -118,13 +120,13 @@ descend-descend-requires t c κs =
     let start = read .before .before in
     let he = read .read .ensures .entries in
     let hw = deep .deep .ensures ∙ read .read .ensures .width in
-    let pre = held _ he hw (start .pre .1 .0) in (
+    let pre = held _ he hw (start .pre .1 .page-is) in (
       omega (arith, start .pre .0),
-      (
-        told _ he hw (descend-down _ (c .before .if1 .left) pre _ (seek .seek .ensures) _ (c .child .ensures)),
-        stop-trail (descend-seek pre) _ (seek .seek .ensures) (start .pre .1 .1) (omega (arith, he, start .pre .1 .2)),
-        start .pre .1 .2,
-      ),
+      record {
+        page-is = told _ he hw (descend-down _ (c .before .if1 .left) pre _ (seek .seek .ensures) _ (c .child .ensures));
+        trail-low = stop-trail (descend-seek pre) _ (seek .seek .ensures) (start .pre .1 .trail-low) (omega (arith, he, start .pre .1 .entries-high));
+        entries-high = start .pre .1 .entries-high;
+      },
     )
 
 descend-returns-2 : (t : ℕ) → descend-lts.Need-returns-2 (descend-claims t) (descend-at t) descend.Post
@@ -134,10 +136,11 @@ descend-returns-2 t c =
     let read = deep .before in
     let start = read .before .before in
     let he = read .read .ensures .entries in
-    let hw = deep .deep .ensures ∙ read .read .ensures .width in (
-      up _ he hw _ (descend-up _ (c .before .before .if1 .left) (held _ he hw (start .pre .1 .0)) _ (seek .seek .ensures) _ (c .before .child .ensures) _ (down _ he hw _ (c .descend .ensures .0))),
-      c .descend .ensures .1,
-    )
+    let hw = deep .deep .ensures ∙ read .read .ensures .width in
+    record {
+      leaf = up _ he hw _ (descend-up _ (c .before .before .if1 .left) (held _ he hw (start .pre .1 .page-is)) _ (seek .seek .ensures) _ (c .before .child .ensures) _ (down _ he hw _ (c .descend .ensures .leaf)));
+      stands = c .descend .ensures .stands;
+    }
 
 pub +descend-spec : {M : Type 1} → statement M
 +descend-spec = close μ-descend λ t. descend-lts.spec (descend-claims t)

@@ -1,10 +1,10 @@
 -- The entry is read where it stands. Assumes nothing.
 use borrow.Author.Needs.{needs}
-use mathlib.Core.Path.{_≡_, ap, _∙_}
+use mathlib.Core.Path.{ap, _∙_}
 use Prim.Native.Nat.{_/_, _%_}
 use native.Mathlib.Omega.{arith}
 use Rattle.index_table.specs.Layout.{Ref}
-use Rattle.table_search.specs.Places.{placePage, placeIn}
+use Rattle.table_search.specs.Places.{placePage, placeAt}
 use Rattle.table_search.proofs.PlaceNumbers.{place-within, place-entry}
 use Rattle.table_search.proofs.leaf_at.Statement.{statement}
 use Rattle.table_search.proofs.leaf_at.Tie as tie
@@ -32,7 +32,7 @@ returns c =
     let entry = place-entry (start .pre) (read .read .ensures .entries) in
     let pointer-is = pointed .pointer .ensures .0 ∙ ap (λ (x : Ref). x .1) entry in
     let depth-is = c .deep .ensures ∙ c .before .depth .ensures ∙ ap (λ (x : Ref). x .0) entry in
-    λ i. record { at = placeIn (start .args .place); pointer = pointer-is i; page = record { 0 = placePage (start .args .place) }; depth = depth-is i; trail = start .args .place / 16777216 % 256; before = start .args .place / 4294967296 }
+    λ i. record { at = placeAt (start .args .place); pointer = pointer-is i; page = record { 0 = placePage (start .args .place) }; depth = depth-is i; trail = start .args .place / 16777216 % 256; before = start .args .place / 4294967296 }
 
 pub leaf-at-spec : {M : Type 1} → statement M
 leaf-at-spec = tie.close (tie.spec read-requires cast-t8 pointer-requires depth-requires deep-requires returns)

@@ -1,6 +1,5 @@
 -- The first of the bits left, or w + 1 where none is. Assumes nothing.
 use borrow.Author.Needs.{needs}
-use Prim.Native.Nat.{_-_}
 use Rattle.table_search.proofs.BitsAhead.{next-first, last-low}
 use Rattle.table_search.proofs.next_position.Statement.{statement}
 use Rattle.table_search.proofs.next_position.Tie as tie

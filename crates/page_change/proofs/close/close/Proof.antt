@@ -1,9 +1,6 @@
 -- The entries behind are moved down, zeros behind them, and the count set. Assumes nothing.
-use mathlib.Core.Path.{_≡_, _∙_}
 use native.Mathlib.Omega.{arith}
-use lib.ListN.{length, length-set}
-use Rattle.index_table.specs.Layout.{layoutOf}
-use Rattle.index_table.specs.Pages.{pagesAt}
+use lib.ListN.{length-set}
 use Rattle.page_change.proofs.PageChanges.{row-count, close-room, close-zeros, entries-closed}
 use borrow.Author.Needs.{needs}
 use Rattle.page_change.proofs.close.close.Statement.{statement}

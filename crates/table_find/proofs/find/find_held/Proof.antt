@@ -5,7 +5,7 @@ use Prim.Native.Nat.{ℕ, _<_}
 use native.Mathlib.Omega.{arith}
 use lib.ListN.{length, getD}
 use Rattle.index_table.proofs.Pointers.{dummy-pointer, live-pointer}
-use Rattle.table_find.specs.Answers.{plain, withRecord}
+use Rattle.table_find.specs.Answers.{withRecord}
 use Rattle.table_find.proofs.FoundLeaves.{found-at, dummy-absent, other-absent, live-found, live-inside}
 use Rattle.table_find.proofs.find.find_held.Statement.{statement}
 use Rattle.table_find.proofs.find.find_held.Tie as tie

@@ -26,11 +26,12 @@ descend-requires c κs =
     let level = next .before in
     let deep = level .before in
     let read = deep .before in
-    let start = read .before .before .before .before in (
-      descend-start (start .pre .0) _ (read .read .ensures) _ _ _ (deep .deep .ensures) (level .level .ensures) (start .pre .1) _ (next .next-position .ensures),
-      omega arith,
-      start .pre .0 .limits .entries-high,
-    )
+    let start = read .before .before .before .before in
+    record {
+      page-is = descend-start (start .pre .0) _ (read .read .ensures) _ _ _ (deep .deep .ensures) (level .level .ensures) (start .pre .1) _ (next .next-position .ensures);
+      trail-low = omega arith;
+      entries-high = start .pre .0 .limits .entries-high;
+    }
 
 returns : tie.Need-returns
 returns c =
@@ -40,8 +41,8 @@ returns c =
     let read = deep .before in
     let start = read .before .before .before .before in
     record {
-      leaf = descend-end (start .pre .0) _ (read .read .ensures) _ _ _ (deep .deep .ensures) (level .level .ensures) (start .pre .1) _ _ (next .next-position .ensures) (c .descend .ensures .0);
-      stands = c .descend .ensures .1;
+      leaf = descend-end (start .pre .0) _ (read .read .ensures) _ _ _ (deep .deep .ensures) (level .level .ensures) (start .pre .1) _ _ (next .next-position .ensures) (c .descend .ensures .leaf);
+      stands = c .descend .ensures .stands;
     }
 
 pub place-of-spec : {M : Type 1} → statement M
