@@ -46,12 +46,13 @@ fn enter(index: &[u8], map: &mut [u8], h: Index, level: u8, page: PageNo) -> boo
     true
 }
 
-// A page that c closes, and all below it, behind what is carried: a page is sound if its children are.
+// A page that c closes, and all below it, behind what is carried: a page is sound if its children are. The slices stand behind references: handed on as
+// they are, they would be copied for each page.
 pub fn page_ok(
-    index: &[u8],
-    keys: &[u64],
-    used: &[u8],
-    masks: &[u64],
+    index: &&[u8],
+    keys: &&[u64],
+    used: &&[u8],
+    masks: &&[u64],
     map: &mut [u8],
     h: Index,
     level: u8,
@@ -59,24 +60,28 @@ pub fn page_ok(
     c: u8,
     s: Scan,
 ) -> Checked
-    requires { ⌜ WalkPre h (now index) (now keys) (now used) (now masks) (now map) s ⌝ }
-    ensures { λ r. ⌜ Walked h (now (index .entry)) (now (keys .entry)) (now (used .entry)) (suc level) (c, page .0) (now (map .entry)) (now (map .exit)) s r ⌝ }
+    requires { ⌜ WalkPre h (now (now index)) (now (now keys)) (now (now used)) (now (now masks)) (now map) s ⌝ }
+    ensures { λ r. ⌜ Walked h (now (now (index .entry))) (now (now (keys .entry))) (now (now (used .entry))) (suc level) (c, page .0) (now (map .entry)) (now (map .exit)) s r ⌝ }
 {
-    if !enter(index, map, h, level, page) {
+    let table = *index;
+    let register = *keys;
+    let uses = *used;
+    let bits = *masks;
+    if !enter(table, map, h, level, page) {
         return Checked { faults: 1, scan: s };
     }
     if level == 0 {
-        return leaf_check::leaves::scan_leaves(index, keys, used, masks, h, page, c, s);
+        return leaf_check::leaves::scan_leaves(table, register, uses, bits, h, page, c, s);
     }
-    let n = index_table::layout::wide(index_table::layout::count(index, h.entries, page));
+    let n = index_table::layout::wide(index_table::layout::count(table, h.entries, page));
     let mut scan = s;
     let mut i: usize = 0;
     while i < n {
-        let d = index_table::layout::depth(index, h.entries, page, i);
+        let d = index_table::layout::depth(table, h.entries, page, i);
         if !leaf_check::leaves::closes(c, d, i + 1 == n) {
             return Checked { faults: 1, scan };
         }
-        let child = index_table::layout::child(index, h.entries, page, i);
+        let child = index_table::layout::child(table, h.entries, page, i);
         let next = child_ok(index, keys, used, masks, map, h, level, child, d, scan);
         if next.faults != 0 {
             return next;
@@ -89,10 +94,10 @@ pub fn page_ok(
 
 // A child is in order if it is a sound page one level lower.
 fn child_ok(
-    index: &[u8],
-    keys: &[u64],
-    used: &[u8],
-    masks: &[u64],
+    index: &&[u8],
+    keys: &&[u64],
+    used: &&[u8],
+    masks: &&[u64],
     map: &mut [u8],
     h: Index,
     level: u8,
@@ -100,8 +105,8 @@ fn child_ok(
     c: u8,
     s: Scan,
 ) -> Checked
-    requires { ⌜ WalkPre h (now index) (now keys) (now used) (now masks) (now map) s × (0 < level) ⌝ }
-    ensures { λ r. ⌜ Walked h (now (index .entry)) (now (keys .entry)) (now (used .entry)) level (c, page .0) (now (map .entry)) (now (map .exit)) s r ⌝ }
+    requires { ⌜ WalkPre h (now (now index)) (now (now keys)) (now (now used)) (now (now masks)) (now map) s × (0 < level) ⌝ }
+    ensures { λ r. ⌜ Walked h (now (now (index .entry))) (now (now (keys .entry))) (now (now (used .entry))) level (c, page .0) (now (map .entry)) (now (map .exit)) s r ⌝ }
 {
     page_ok(index, keys, used, masks, map, h, level - 1, page, c, s)
 }

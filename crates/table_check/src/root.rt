@@ -49,7 +49,7 @@ fn tree_marked(
         closed: false,
     };
     let root = h.root;
-    let end = crate::pages::page_ok(index, keys, used, masks, map, h, level, root, 0, start);
+    let end = crate::pages::page_ok(&index, &keys, &used, &masks, map, h, level, root, 0, start);
     if end.faults != 0 {
         return false;
     }

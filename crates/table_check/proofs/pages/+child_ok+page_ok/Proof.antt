@@ -27,24 +27,24 @@ use Rattle.table_check.proofs.pages.enter.Reads as enter-reads
 use Rattle.table_check.proofs.pages.+child_ok+page_ok.{statement}
 use Rattle.table_check.proofs.pages.+child_ok+page_ok.Tie.{close}
 
-abbrev μ-child-ok : Measures 5 child-ok-kinds.ps ℕ
+abbrev μ-child-ok : Measures 9 child-ok-kinds.ps ℕ
 μ-child-ok κs a = 2 * a .1 .1 .1 .1 .1 .1 .0
 
-abbrev μ-page-ok : Measures 5 page-ok-kinds.ps ℕ
+abbrev μ-page-ok : Measures 9 page-ok-kinds.ps ℕ
 μ-page-ok κs a = 2 * a .1 .1 .1 .1 .1 .1 .0 + 1
 
-abbrev child-ok-at : ℕ → In 5 child-ok-kinds.ps
-child-ok-at t = and 5 child-ok-kinds.ps (is 5 child-ok-kinds.ps μ-child-ok t) child-ok.Pre
+abbrev child-ok-at : ℕ → In 9 child-ok-kinds.ps
+child-ok-at t = and 9 child-ok-kinds.ps (is 9 child-ok-kinds.ps μ-child-ok t) child-ok.Pre
 
-abbrev child-ok-below : ℕ → In 5 child-ok-kinds.ps
+abbrev child-ok-below : ℕ → In 9 child-ok-kinds.ps
 child-ok-below t =
-    and 5 child-ok-kinds.ps (falls 5 child-ok-kinds.ps _<_ μ-child-ok t) child-ok.Pre
+    and 9 child-ok-kinds.ps (falls 9 child-ok-kinds.ps _<_ μ-child-ok t) child-ok.Pre
 
-abbrev page-ok-at : ℕ → In 5 page-ok-kinds.ps
-page-ok-at t = and 5 page-ok-kinds.ps (is 5 page-ok-kinds.ps μ-page-ok t) page-ok.Pre
+abbrev page-ok-at : ℕ → In 9 page-ok-kinds.ps
+page-ok-at t = and 9 page-ok-kinds.ps (is 9 page-ok-kinds.ps μ-page-ok t) page-ok.Pre
 
-abbrev page-ok-below : ℕ → In 5 page-ok-kinds.ps
-page-ok-below t = and 5 page-ok-kinds.ps (falls 5 page-ok-kinds.ps _<_ μ-page-ok t) page-ok.Pre
+abbrev page-ok-below : ℕ → In 9 page-ok-kinds.ps
+page-ok-below t = and 9 page-ok-kinds.ps (falls 9 page-ok-kinds.ps _<_ μ-page-ok t) page-ok.Pre
 
 -- What each may use of the functions that it calls.
 abbrev child-ok-claims : ℕ → child-ok-lts.Claims
@@ -76,7 +76,7 @@ child-ok-sub-page-ok :
 child-ok-sub-page-ok t c = search needs
 
 child-ok-page-ok-requires : (t : ℕ) → child-ok-lts.Need-page-ok-requires (child-ok-claims t) (child-ok-at t) child-ok.Post
-child-ok-page-ok-requires t c κs = (let m = c .before .before .before .before .before .before .pre .0 in omega (arith, m, c .before .before .before .before .before .before .pre .1 .1), c .before .before .before .before .before .before .pre .1 .0)
+child-ok-page-ok-requires t c κs = (let m = c .before .before .pre .0 in omega (arith, m, c .before .before .pre .1 .1), c .before .before .pre .1 .0)
 
 child-ok-same-length :
     (t : ℕ) →
@@ -86,17 +86,17 @@ child-ok-same-length t c = search needs
 child-ok-returns :
     (t : ℕ) →
     child-ok-lts.Need-returns (child-ok-claims t) (child-ok-at t) child-ok.Post
-child-ok-returns t c = walked-lower _ (c .before .before .before .before .before .before .before .before .before .pre .1 .1) (c .before .before .page-ok .ensures)
+child-ok-returns t c = walked-lower _ (c .before .before .before .before .before .pre .1 .1) (c .before .before .page-ok .ensures)
 
 abbrev page-ok-Inv-loop : page-ok-lts.InvT-loop
-page-ok-Inv-loop index keys used masks map₀ h level page c n scan₀ i₀ map scan i = RowTurn h index keys used (page .0) c level n map₀ scan₀ map scan i × (length map ≡ length map₀)
+page-ok-Inv-loop index keys used masks map₀ h level page c table n scan₀ i₀ map scan i = RowTurn h (index .now) (keys .now) (used .now) (page .0) c level n map₀ scan₀ map scan i × (length map ≡ length map₀)
 
 abbrev page-ok-μ-loop : page-ok-lts.MeasureT-loop
-page-ok-μ-loop index keys used masks map₀ h level page c n scan₀ i₀ map scan i = n - i
+page-ok-μ-loop index keys used masks map₀ h level page c table n scan₀ i₀ map scan i = n - i
 
 -- The page was met.
 met : (t : ℕ) (c : page-ok-lts.Else1 (page-ok-claims t) (page-ok-at t) page-ok.Post page-ok-Inv-loop page-ok-μ-loop) → let a = c .before .before .before .before .before .before .before .before .before .before .args in
-    MetPage (a .h) (a .index .now) (a .keys .now) (a .used .now) (a .masks .now) (a .level) (a .page .0) (a .map .now) (c .before .before .before .enter .last .1 .0) (a .s)
+    MetPage (a .h) (a .index .now .now) (a .keys .now .now) (a .used .now .now) (a .masks .now .now) (a .level) (a .page .0) (a .map .now) (c .before .before .before .enter .last .1 .0) (a .s)
 met t c = met-page (c .before .before .before .before .before .before .before .before .before .before .pre .1) (c .before .before .before .enter .ensures) (not-false _ (c .if1 .left))
 
 page-ok-enter-requires : (t : ℕ) → page-ok-lts.Need-enter-requires (page-ok-claims t) (page-ok-at t) page-ok.Post page-ok-Inv-loop page-ok-μ-loop
@@ -152,7 +152,7 @@ page-ok-same-length-4 t c = c .before .before .before .before .child-ok .kept .1
 
 page-ok-returns-4 : (t : ℕ) → page-ok-lts.Need-returns-4 (page-ok-claims t) (page-ok-at t) page-ok.Post page-ok-Inv-loop page-ok-μ-loop
 page-ok-returns-4 t c = let a = c .before .before .before .before .before .before .before .before .before .before .before .before .before .before .before .before .before .before .before .before .before .before .before .before .before .args in walked-row-no (met t (c .before .before .before .before .before .before .before .before .before .before .before .before .before .before .before)) (c .if4 .taken)
-    (row-entry (c .before .before .before .before .before .before .before .before .before .before .before .loop .inv .0) (c .before .before .before .before .before .before .before .before .before .before .loop-test .taken) (walked-at (entryAt (a .h) (a .index .now) (a .page .0) _) (c .before .before .before .before .before .before .before .before .before .depth .ensures) (c .before .before .before .before .before .before .child .ensures) (c .before .before .before .before .child-ok .ensures) .scanned) (c .if4 .taken))
+    (row-entry (c .before .before .before .before .before .before .before .before .before .before .before .loop .inv .0) (c .before .before .before .before .before .before .before .before .before .before .loop-test .taken) (walked-at (entryAt (a .h) (a .index .now .now) (a .page .0) _) (c .before .before .before .before .before .before .before .before .before .depth .ensures) (c .before .before .before .before .before .before .child .ensures) (c .before .before .before .before .child-ok .ensures) .scanned) (c .if4 .taken))
 
 page-ok-add-i : (t : ℕ) → page-ok-lts.Need-add-i (page-ok-claims t) (page-ok-at t) page-ok.Post page-ok-Inv-loop page-ok-μ-loop
 page-ok-add-i t c = search needs
@@ -161,7 +161,7 @@ page-ok-loop-less : (t : ℕ) → page-ok-lts.Need-loop-less (page-ok-claims t) 
 page-ok-loop-less t c = search needs
 
 page-ok-loop-again : (t : ℕ) → page-ok-lts.Need-loop-again (page-ok-claims t) (page-ok-at t) page-ok.Post page-ok-Inv-loop page-ok-μ-loop
-page-ok-loop-again t c = let a = c .before .before .before .before .before .before .before .before .before .before .before .before .before .before .before .before .before .before .before .before .before .before .before .before .before .before .args in let x = walked-at (entryAt (a .h) (a .index .now) (a .page .0) _) (c .before .before .before .before .before .before .before .before .before .before .depth .ensures) (c .before .before .before .before .before .before .before .child .ensures) (c .before .before .before .before .before .child-ok .ensures) in let o = c .before .if4 .left in (
+page-ok-loop-again t c = let a = c .before .before .before .before .before .before .before .before .before .before .before .before .before .before .before .before .before .before .before .before .before .before .before .before .before .before .args in let x = walked-at (entryAt (a .h) (a .index .now .now) (a .page .0) _) (c .before .before .before .before .before .before .before .before .before .before .depth .ensures) (c .before .before .before .before .before .before .before .child .ensures) (c .before .before .before .before .before .child-ok .ensures) in let o = c .before .if4 .left in (
   row-more (c .before .before .before .before .before .before .before .before .before .before .before .before .loop .inv .0) (c .before .before .before .before .before .before .before .before .before .before .before .loop-test .taken) (x .scanned) o _ (c .before .before .before .before .before .before .before .before .before .before .depth .ensures) (sym (c .before .before .before .before .before .before .before .before .before .closes .ensures) ∙ not-false _ (c .before .before .before .before .before .before .before .before .if3 .left)) _ (x .marks o),
   c .before .before .before .before .before .child-ok .kept .1 .1 .1 .1 .0 ∙ c .before .before .before .before .before .before .before .before .before .before .before .before .loop .inv .1,
 )
