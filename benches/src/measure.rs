@@ -136,8 +136,14 @@ impl Bench {
         black_box(check(black_box(&self.tables)));
     }
 
-    /// A read of the tables.
-    fn read(&self, what: Read, number: usize) {
+    /// A read of the tables, by these calls.
+    fn read_by(
+        &self,
+        find: impl Fn(&Tables, u64) -> Answer,
+        list: impl Fn(&Tables, u64, u64, &mut [u32]) -> Answer,
+        what: Read,
+        number: usize,
+    ) {
         let key = self.key(what, number);
         let tables = black_box(&self.tables);
         match what {
@@ -151,20 +157,14 @@ impl Bench {
         }
     }
 
+    /// A read of the tables.
+    fn read(&self, what: Read, number: usize) {
+        self.read_by(find, list, what, number);
+    }
+
     /// The same read without its check.
     fn read_alone(&self, what: Read, number: usize) {
-        let key = self.key(what, number);
-        let tables = black_box(&self.tables);
-        match what {
-            Read::Held | Read::Other => {
-                black_box(unchecked::find(tables, key));
-            }
-            Read::List => {
-                let mut out = [0; LISTED];
-                let answer = unchecked::list(tables, key, u64::MAX, black_box(&mut out));
-                black_box(answer);
-            }
-        }
+        self.read_by(unchecked::find, unchecked::list, what, number);
     }
 
     /// The same read of the map.

@@ -24,7 +24,7 @@ use Rattle.index_table.specs.Layout.{Ref, refBytes, rowBytes}
 use Rattle.index_table.proofs.PageRows.{length-row-bytes, row-bytes-append}
 use Rattle.table_search.specs.Places.{later, leftFrom, NextPosition}
 use Rattle.table_search.proofs.NextPositions.{drop-bits, last-bit}
-use Rattle.table_search.proofs.BitsAhead.{order, last-low}
+use Rattle.table_search.proofs.BitsAhead.{order, last-bits-low}
 use Rattle.new_entries.specs.Entries.{refOf}
 
 -- ---- the positions between two depths
@@ -193,7 +193,7 @@ counted w key low to h g behind is =
 pub count-low : (w key low to behind : ℕ) → behind ≡ key % 2 ^ (w - low) → ones (behind / 2 ^ (w - to) / 2 ^ 1) ≤ w
 count-low w key low to behind is =
     ones-le w (behind / 2 ^ (w - to) / 2 ^ 1)
-    (lt-of-le-of-lt (le-trans (div-le-self (behind / 2 ^ (w - to)) (2 ^ 1)) (div-le-self behind (2 ^ (w - to)))) (last-low w key low behind is))
+    (lt-of-le-of-lt (le-trans (div-le-self (behind / 2 ^ (w - to)) (2 ^ 1)) (div-le-self behind (2 ^ (w - to)))) (last-bits-low w key low behind is))
 
 -- ---- written
 

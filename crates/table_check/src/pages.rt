@@ -64,14 +64,11 @@ pub fn page_ok(
     ensures { λ r. ⌜ Walked h (now (now (index .entry))) (now (now (keys .entry))) (now (now (used .entry))) (suc level) (c, page .0) (now (map .entry)) (now (map .exit)) s r ⌝ }
 {
     let table = *index;
-    let register = *keys;
-    let uses = *used;
-    let bits = *masks;
     if !enter(table, map, h, level, page) {
         return Checked { faults: 1, scan: s };
     }
     if level == 0 {
-        return leaf_check::leaves::scan_leaves(table, register, uses, bits, h, page, c, s);
+        return leaf_check::leaves::scan_leaves(table, *keys, *used, *masks, h, page, c, s);
     }
     let n = index_table::layout::wide(index_table::layout::count(table, h.entries, page));
     let mut scan = s;

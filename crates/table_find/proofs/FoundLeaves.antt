@@ -34,13 +34,13 @@ use Rattle.index_table.proofs.Pointers.{record-nil, record-live}
 use Rattle.index_table.proofs.SoundNodes.{sound-tree, tree-depth}
 use Rattle.index_table.proofs.SoundTables.{keys-narrow, in-use-inside, herd-narrow, herd-sorted, herd-keys, table-long, root-within, leaf-depths}
 use Rattle.table_search.specs.declared.Leaf.{Leaf}
-use Rattle.table_search.specs.Places.{leftFrom, NextPosition, DescendPre, Descended, placeLeaf}
-use Rattle.table_find.specs.Places.{FoundLeaf, FoundPlace}
+use Rattle.table_search.specs.Places.{leftFrom, NextPosition, DescendPre, Descended}
+use Rattle.table_find.specs.Places.{FoundLeaf}
 use Rattle.table_find.specs.Answers.{plain, withRecord, found}
 
--- The entry at a place that was found.
-pub found-at : {index keys used : List ℕ} {key place : ℕ} {leaf : Leaf} → FoundPlace index keys used key place → leaf ≡ placeLeaf index place → FoundLeaf index keys used key leaf
-found-at {index} {keys} {used} {key} p e = subst (FoundLeaf index keys used key) (sym e) (p .leaf)
+-- The entry that was found, read off its number.
+pub found-read : {index keys used : List ℕ} {key : ℕ} {leaf r : Leaf} → FoundLeaf index keys used key leaf → r ≡ leaf → FoundLeaf index keys used key r
+found-read {index} {keys} {used} {key} at e = subst (FoundLeaf index keys used key) (sym e) at
 
 -- The records of the live entries are in use.
 pub live-used : {index keys used : List ℕ} → Sound index keys used → All (λ x. inUse used x ≡ true) (liveRecords (leafList (widthOf index) (herdOf keys used)))

@@ -13,7 +13,7 @@ use Rattle.index_table.specs.Header.{widthOf, entriesOf, rootOf}
 use Rattle.index_table.specs.Pages.{pagesAt, recordOf}
 use Rattle.index_table.specs.Soundness.{rootLevel}
 use Rattle.table_search.specs.declared.Leaf.{Leaf}
-use Rattle.table_search.specs.Places.{NextPosition, Way, placeLeaf, PlaceStands}
+use Rattle.table_search.specs.Places.{NextPosition, Way}
 
 -- The entry that figure 6 finds on the leaf list of the register, and the depth before it.
 pub record FoundLeaf (index keys used : List ℕ) (key : ℕ) (r : Leaf) : Type 0 where
@@ -25,8 +25,3 @@ pub record FoundLeaf (index keys used : List ℕ) (key : ℕ) (r : Leaf) : Type 
   pub first : ℕ
   pub begins : NextPosition (widthOf index) key 0 first
   pub way : Way (widthOf index) key (pagesAt (layoutOf (entriesOf index)) index) (rootLevel index) (rootOf index) first 0 r
-
--- The same by its number.
-pub record FoundPlace (index keys used : List ℕ) (key r : ℕ) : Type 0 where
-  pub leaf : FoundLeaf index keys used key (placeLeaf index r)
-  pub stands : PlaceStands index r

@@ -5,16 +5,17 @@ ghost use Rattle.leaf_list.specs.Herd.{lookup};
 ghost use Rattle.leaf_list.specs.Register.{herdOf};
 ghost use Rattle.index_table.specs.Header.{widthOf};
 ghost use Rattle.index_table.specs.Soundness.{Sound};
+ghost use Rattle.table_search.specs.Places.{numberLeaf};
 ghost use Rattle.table_find.specs.Answers.{found};
-ghost use Rattle.table_find.specs.Places.{FoundPlace, FoundLeaf};
+ghost use Rattle.table_find.specs.Places.{FoundLeaf};
 use crate::answer::Answer;
 use index_table::header::Index;
 use table_search::Leaf;
 
-// The place on level 0 at which the search for a key ends.
-fn place_of(index: &[u8], keys: &[u64], used: &[u8], key: u64) -> u64
+// The entry on level 0 at which the search for a key ends, as one number.
+fn found_number(index: &[u8], keys: &[u64], used: &[u8], key: u64) -> u64
     requires { ⌜ Sound (now index) (now keys) (now used) × (key < 2 ^ widthOf (now index)) ⌝ }
-    ensures { λ r. ⌜ FoundPlace (now (index .entry)) (now (keys .entry)) (now (used .entry)) key r ⌝ }
+    ensures { λ r. ⌜ FoundLeaf (now (index .entry)) (now (keys .entry)) (now (used .entry)) key (numberLeaf r) ⌝ }
 {
     let h = index_table::header::read(index);
     let w = index_table::layout::deep(h.width);
@@ -23,12 +24,12 @@ fn place_of(index: &[u8], keys: &[u64], used: &[u8], key: u64) -> u64
     table_search::descend(&index, level, h.root, key, position, 0)
 }
 
-// The entry there.
+// The entry.
 pub fn leaf_of(index: &[u8], keys: &[u64], used: &[u8], key: u64) -> Leaf
     requires { ⌜ Sound (now index) (now keys) (now used) × (key < 2 ^ widthOf (now index)) ⌝ }
     ensures { λ r. ⌜ FoundLeaf (now (index .entry)) (now (keys .entry)) (now (used .entry)) key r ⌝ }
 {
-    table_search::leaf_at(index, place_of(index, keys, used, key))
+    table_search::numbered_leaf(found_number(index, keys, used, key))
 }
 
 // The record of a held key: only a live leaf yields one, and its key is compared whole.
@@ -36,7 +37,8 @@ pub fn find_held(index: &[u8], keys: &[u64], used: &[u8], key: u64) -> Answer
     requires { ⌜ Sound (now index) (now keys) (now used) × (key < 2 ^ widthOf (now index)) ⌝ }
     ensures { λ r. ⌜ r ≡ found (lookup key (herdOf (now (keys .entry)) (now (used .entry)))) ⌝ }
 {
-    let leaf = table_search::leaf_at(index, place_of(index, keys, used, key));
+    // As leaf_of does; with two callers found_number stays a call that hands over registers alone.
+    let leaf = table_search::numbered_leaf(found_number(index, keys, used, key));
     let answer = index_table::layout::answer_of(leaf.pointer);
     let index_table::layout::Answer::Live(record) = answer else {
         return Answer::plain(6);

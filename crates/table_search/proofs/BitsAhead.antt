@@ -47,8 +47,8 @@ pub ahead-fits : (w key b first : ℕ) → w ≤ 64 → 0 < b → b ≤ w → fi
 ahead-fits w key b first wide pos h e =
     rw (e, sym (some-ahead w key b h)) (lt-of-lt-of-le (ahead-under w key b) (pow-mono (let s : suc (w - b) ≤ 64 = omega arith in s)))
 
-pub last-low : (w key p rest : ℕ) → rest ≡ key % 2 ^ (w - p) → rest < 2 ^ w
-last-low w key p rest e = rw e (lt-of-lt-of-le (mod-lt key (pow-pos (w - p))) (pow-mono (let s : w - p ≤ w = omega arith in s)))
+pub last-bits-low : (w key p rest : ℕ) → rest ≡ key % 2 ^ (w - p) → rest < 2 ^ w
+last-bits-low w key p rest e = rw e (lt-of-lt-of-le (mod-lt key (pow-pos (w - p))) (pow-mono (let s : w - p ≤ w = omega arith in s)))
 
 pub next-first : (w key p rest : ℕ) → w ≤ 64 → p ≤ w → rest ≡ key % 2 ^ (w - p) → NextPosition w key p (firstPosition w rest)
 next-first w key p rest wide h e = go (eq-zero-or-pos rest)

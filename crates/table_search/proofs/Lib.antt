@@ -4,6 +4,6 @@ pub mod BitsAhead
 pub mod LastBits
 pub mod PageDiscriminators
 pub mod PageSearches
-pub mod PlaceNumbers
+pub mod LeafNumbers
 pub mod Descents
 pub mod WayEnds

@@ -125,38 +125,25 @@ pub record Descended (w key position τ n : ℕ) (pages : Pages) (page : ℕ) (r
       ≡ (leftFrom w key next, r .trail, entry (r .depth) (recordOf 65535 (r .pointer)))
   pub way : Way w key pages n page position τ r
 
--- An entry of level 0 as one number: the depth before its page, the depth before it, its place in its page, and the page.
-abbrev pub placeNumber : ℕ → ℕ → ℕ → ℕ → ℕ
-placeNumber before trail at page = ((before * 256 + trail) * 256 + at) * 65536 + page
+-- An entry on level 0 whose numbers are small enough to stand in one.
+pub record LeafLow (l : Leaf) : Type 0 where
+  pub at : l .at < 256
+  pub pointer : l .pointer ≤ 65535
+  pub depth : l .depth ≤ 64
+  pub trail : l .trail ≤ 64
+  pub before : l .before ≤ 64
 
--- The page and the place in it that such a number means,
-abbrev pub placePage : ℕ → ℕ
-placePage r = r % 65536
-
-abbrev pub placeAt : ℕ → ℕ
-placeAt r = r / 65536 % 256
-
--- and the entry there.
-abbrev pub leafAt : Pages → ℕ → Leaf
-leafAt pages r =
+-- The entry that such a number means.
+abbrev pub numberLeaf : ℕ → Leaf
+numberLeaf r =
     record {
-      at = placeAt r;
-      pointer = getD (pages (placePage r)) (placeAt r) (0, 0) .1;
-      page = record { 0 = placePage r };
-      depth = getD (pages (placePage r)) (placeAt r) (0, 0) .0;
-      trail = r / 16777216 % 256;
-      before = r / 4294967296;
+      at = r / 4294967296 % 256;
+      pointer = r % 65536;
+      page = record { 0 = r / 65536 % 65536 };
+      depth = r / 1099511627776 % 256;
+      trail = r / 281474976710656 % 256;
+      before = r / 72057594037927936;
     }
-
--- The same in an index table.
-abbrev pub placeLeaf : List ℕ → ℕ → Leaf
-placeLeaf b r = leafAt (pagesAt (layoutOf (entriesOf b)) b) r
-
--- It stands in the table.
-pub record PlaceStands (b : List ℕ) (r : ℕ) : Type 0 where
-  pub within : Within (layoutOf (entriesOf b)) b (placePage r)
-  pub inside : placeAt r < length (pagesAt (layoutOf (entriesOf b)) b (placePage r))
-  pub few : length (pagesAt (layoutOf (entriesOf b)) b (placePage r)) ≤ entriesOf b
 
 -- A page of level n from which the descent can begin, with the depth τ before it.
 pub record ReachPre (b : List ℕ) (n page key position τ : ℕ) : Type 0 where
@@ -164,7 +151,6 @@ pub record ReachPre (b : List ℕ) (n page key position τ : ℕ) : Type 0 where
   pub trail-low : τ ≤ 64
   pub entries-high : entriesOf b ≤ 255
 
--- The entry that it comes to, by its number.
-pub record Reached (b : List ℕ) (n page key position τ r : ℕ) : Type 0 where
-  pub leaf : Descended (widthOf b) key position τ n (pagesAt (layoutOf (entriesOf b)) b) page (placeLeaf b r)
-  pub stands : PlaceStands b r
+-- The entry that it comes to.
+abbrev pub Reached : List ℕ → ℕ → ℕ → ℕ → ℕ → ℕ → Leaf → Type 0
+Reached b n page key position τ r = Descended (widthOf b) key position τ n (pagesAt (layoutOf (entriesOf b)) b) page r

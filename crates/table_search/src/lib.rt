@@ -5,7 +5,7 @@ ghost use Prim.Native.Nat.{_+_, _-_, _%_, _^_, _≤_, _<_};
 ghost use lib.Dec.{leb};
 ghost use Rattle.index_table.specs.Layout.{layoutOf};
 ghost use Rattle.index_table.specs.Pages.{pagesAt};
-ghost use Rattle.table_search.specs.Places.{ahead, firstPosition, lastBefore, lastPosition, NextPosition, SeekPre, spotAt, Stopped, placeNumber, placeLeaf, PlaceStands, ReachPre, Reached};
+ghost use Rattle.table_search.specs.Places.{ahead, firstPosition, lastBefore, lastPosition, NextPosition, SeekPre, spotAt, Stopped, LeafLow, numberLeaf, ReachPre, Reached};
 use index_table::layout::PageNo;
 use index_table::layout::child;
 use index_table::layout::count;
@@ -157,45 +157,50 @@ pub fn seek(index: &[u8], e: u8, page: PageNo, w: u64, key: u64, position: u64, 
     spot_at(w, bits, trail, disc, i)
 }
 
-// An entry on level 0 as one number: the depth before its page, the depth before it, its place in its page, and the page.
-fn place_number(before: u64, trail: u64, at: usize, page: PageNo) -> u64
-    requires { ⌜ (before ≤ 64) × (trail ≤ 64) × (at < 256) ⌝ }
-    ensures { λ r. ⌜ (r ≡ placeNumber before trail at (page .0)) × (page .0 ≤ 65535) ⌝ }
+// An entry on level 0 as one number: the depth before its page, the one before it, its own, its place in its page, the page, and what it points at.
+fn leaf_number(leaf: Leaf) -> u64
+    requires { ⌜ LeafLow leaf ⌝ }
+    ensures { λ r. ⌜ numberLeaf r ≡ leaf ⌝ }
 {
-    ((before * 256 + trail) * 256 + at as u64) * 65536 + wide16(page.0) as u64
+    let depths = (leaf.before * 256 + leaf.trail) * 256 + leaf.depth;
+    let place = (depths * 256 + leaf.at as u64) * 65536 + wide16(leaf.page.0) as u64;
+    place * 65536 + leaf.pointer as u64
+}
+
+// The entry that a number means.
+pub fn numbered_leaf(number: u64) -> Leaf
+    ensures { λ r. ⌜ r ≡ numberLeaf number ⌝ }
+{
+    Leaf {
+        at: (number / 4294967296 % 256) as usize,
+        pointer: (number % 65536) as u32,
+        page: PageNo((number / 65536 % 65536) as u16),
+        depth: number / 1099511627776 % 256,
+        trail: number / 281474976710656 % 256,
+        before: number / 72057594037927936,
+    }
 }
 
 // From a page of a level down to the entry that figure 6 finds. The position list is carried on by its next position, and the depth before with it. The
 // entry is one number, and the slice is behind a reference: a struct and a slice would go through memory on each level.
 pub fn descend(index: &&[u8], level: u8, page: PageNo, key: u64, position: u64, trail: u64) -> u64
     requires { ⌜ ReachPre (now (now index)) level (page .0) key position trail ⌝ }
-    ensures { λ r. ⌜ Reached (now (now (index .entry))) level (page .0) key position trail r ⌝ }
+    ensures { λ r. ⌜ Reached (now (now (index .entry))) level (page .0) key position trail (numberLeaf r) ⌝ }
 {
     let table = *index;
     let h = index_table::header::read(table);
     let w = deep(h.width);
     let s = seek(table, h.entries, page, w, key, position, trail);
     if level == 0 {
-        return place_number(trail, s.trail, s.at, page);
+        return leaf_number(Leaf {
+            at: s.at,
+            pointer: pointer(table, h.entries, page, s.at),
+            page,
+            depth: deep(depth(table, h.entries, page, s.at)),
+            trail: s.trail,
+            before: trail,
+        });
     }
     let below = child(table, h.entries, page, s.at);
     descend(index, level - 1, below, key, s.position, s.trail)
-}
-
-// The entry on level 0 that a number means.
-pub fn leaf_at(index: &[u8], place: u64) -> Leaf
-    requires { ⌜ PlaceStands (now index) place ⌝ }
-    ensures { λ r. ⌜ r ≡ placeLeaf (now (index .entry)) place ⌝ }
-{
-    let e = index_table::header::read(index).entries;
-    let page = PageNo((place % 65536) as u16);
-    let at = (place / 65536 % 256) as usize;
-    Leaf {
-        at,
-        pointer: pointer(index, e, page, at),
-        page,
-        depth: deep(depth(index, e, page, at)),
-        trail: place / 16777216 % 256,
-        before: place / 4294967296,
-    }
 }

@@ -1,13 +1,14 @@
 -- Level by level: the page is searched, and on level 0 the entry is the answer. Assumes nothing.
 use borrow.Author.Needs.{needs}
-use mathlib.Core.Path.{_≡_, _∙_}
+use mathlib.Core.Path.{_≡_, sym, subst, _∙_}
 use mathlib.Core.List.{List}
 use native.Mathlib.Omega.{arith}
 use Rattle.index_table.specs.Header.{widthOf, entriesOf}
 use Rattle.index_table.specs.Layout.{layoutOf}
 use Rattle.index_table.specs.Pages.{pagesAt}
-use Rattle.table_search.specs.Places.{DescendPre, Descended, leafAt}
-use Rattle.table_search.proofs.PlaceNumbers.{stop-trail, stop-low, place-ends, place-in}
+use Rattle.table_search.specs.declared.Leaf.{Leaf}
+use Rattle.table_search.specs.Places.{DescendPre, Ends, Descended}
+use Rattle.table_search.proofs.LeafNumbers.{stop-trail, stop-low, stop-ends}
 use Rattle.table_search.proofs.Descents.{descend-within, descend-seek, descend-inside, descend-leaf, descend-down, descend-up}
 use Prim.Native.Nat.{ℕ, _≤_, _<_}
 use borrow.Fn.Kinds.{In}
@@ -18,7 +19,9 @@ use Rattle.table_search.proofs.+descend.Lts-descend as descend-lts
 use Rattle.index_table.proofs.header.read.Reads as read-reads
 use Rattle.index_table.proofs.layout.child.Reads as child-reads
 use Rattle.index_table.proofs.layout.deep.Reads as deep-reads
-use Rattle.table_search.proofs.place_number.Reads as place-number-reads
+use Rattle.index_table.proofs.layout.depth.Reads as depth-reads
+use Rattle.index_table.proofs.layout.pointer.Reads as pointer-reads
+use Rattle.table_search.proofs.leaf_number.Reads as leaf-number-reads
 use Rattle.table_search.proofs.seek.Reads as seek-reads
 use Rattle.table_search.proofs.+descend.{statement}
 use Rattle.table_search.proofs.+descend.Tie.{close}
@@ -31,12 +34,10 @@ module _ (b : List ℕ) {n page key position e w : ℕ} (he : e ≡ entriesOf b)
   told : {P : ℕ} → DescendPre b e P n page w key position → DescendPre b (entriesOf b) P n page (widthOf b) key position
   told pre = rw (he, hw) at pre
 
-  down : {τ : ℕ} (r : ℕ) → Descended (widthOf b) key position τ n (pagesAt (layoutOf (entriesOf b)) b) page (leafAt (pagesAt (layoutOf (entriesOf b)) b) r)
-      → Descended w key position τ n (pagesAt (layoutOf e) b) page (leafAt (pagesAt (layoutOf e) b) r)
+  down : {τ : ℕ} (r : Leaf) → Descended (widthOf b) key position τ n (pagesAt (layoutOf (entriesOf b)) b) page r → Descended w key position τ n (pagesAt (layoutOf e) b) page r
   down r d = rw (he, hw) d
 
-  up : {τ : ℕ} (r : ℕ) → Descended w key position τ n (pagesAt (layoutOf e) b) page (leafAt (pagesAt (layoutOf e) b) r)
-      → Descended (widthOf b) key position τ n (pagesAt (layoutOf (entriesOf b)) b) page (leafAt (pagesAt (layoutOf (entriesOf b)) b) r)
+  up : {τ : ℕ} (r : Leaf) → Descended w key position τ n (pagesAt (layoutOf e) b) page r → Descended (widthOf b) key position τ n (pagesAt (layoutOf (entriesOf b)) b) page r
   up r d = rw (he, hw) at d
 
 abbrev μ-descend : Measures 2 descend-kinds.ps ℕ
@@ -57,8 +58,12 @@ descend-claims t = (
   deep-reads.Learnt,
   seek-reads.Asked,
   seek-reads.Learnt,
-  place-number-reads.Asked,
-  place-number-reads.Learnt,
+  pointer-reads.Asked,
+  pointer-reads.Learnt,
+  depth-reads.Asked,
+  depth-reads.Learnt,
+  leaf-number-reads.Asked,
+  leaf-number-reads.Learnt,
   child-reads.Asked,
   child-reads.Learnt,
   descend-below t,
@@ -76,31 +81,45 @@ descend-seek-requires t c κs =
     let read = c .before in
     descend-seek (held _ (read .read .ensures .entries) (c .deep .ensures ∙ read .read .ensures .width) (read .before .before .pre .1 .page-is))
 
-descend-place-number-requires : (t : ℕ) → descend-lts.Need-place-number-requires (descend-claims t) (descend-at t) descend.Post
-descend-place-number-requires t c κs =
+descend-pointer-requires : (t : ℕ) → descend-lts.Need-pointer-requires (descend-claims t) (descend-at t) descend.Post
+descend-pointer-requires t c κs =
     let deep = c .before .before in
+    let read = deep .before in
+    let pre = held _ (read .read .ensures .entries) (deep .deep .ensures ∙ read .read .ensures .width) (read .before .before .pre .1 .page-is) in
+    (descend-within pre, descend-inside pre _ (c .before .seek .ensures))
+
+descend-depth-requires : (t : ℕ) → descend-lts.Need-depth-requires (descend-claims t) (descend-at t) descend.Post
+descend-depth-requires t c κs = descend-pointer-requires t (c .before) κs
+
+descend-deep-requires-2 : (t : ℕ) → descend-lts.Need-deep-requires-2 (descend-claims t) (descend-at t) descend.Post
+descend-deep-requires-2 t c κs = search needs
+
+descend-leaf-number-requires : (t : ℕ) → descend-lts.Need-leaf-number-requires (descend-claims t) (descend-at t) descend.Post
+descend-leaf-number-requires t c κs =
+    let depth = c .before in
+    let pointed = depth .before in
+    let seek = pointed .before .before in
+    let deep = seek .before in
     let read = deep .before in
     let start = read .before .before in
     let pre = descend-seek (held _ (read .read .ensures .entries) (deep .deep .ensures ∙ read .read .ensures .width) (start .pre .1 .page-is)) in
-    let low = start .pre .1 .trail-low in
-    (low, stop-trail pre _ (c .before .seek .ensures) low (omega (arith, read .read .ensures .entries, start .pre .1 .entries-high)), stop-low pre _ (c .before .seek .ensures) low (omega (arith, read .read .ensures .entries, start .pre .1 .entries-high)))
+    stop-low pre _ (seek .seek .ensures) _ _ (c .deep2 .ensures ∙ depth .depth .ensures) (start .pre .1 .trail-low) (omega (arith, read .read .ensures .entries, start .pre .1 .entries-high)) (pointed .pointer .ensures .1)
 
 descend-returns : (t : ℕ) → descend-lts.Need-returns (descend-claims t) (descend-at t) descend.Post
 descend-returns t c =
-    let seek = c .before .before in
+    let deep2 = c .before in
+    let depth = deep2 .before in
+    let pointed = depth .before in
+    let seek = pointed .before .before in
     let deep = seek .before in
     let read = deep .before in
     let start = read .before .before in
     let he = read .read .ensures .entries in
     let hw = deep .deep .ensures ∙ read .read .ensures .width in
     let pre = held _ he hw (start .pre .1 .page-is) in
-    let is = c .place-number .ensures in
-    let low = start .pre .1 .trail-low in
-    let few : read .read .result .entries ≤ 255 = omega (arith, he, start .pre .1 .entries-high) in
-    record {
-      leaf = up _ he hw _ (descend-leaf _ pre (c .before .if1 .taken) _ (place-ends (descend-seek pre) _ (seek .seek .ensures) low few _ (is .0) (is .1)));
-      stands = place-in (descend-seek pre) _ (seek .seek .ensures) low few _ (is .0) (is .1) he;
-    }
+    up _ he hw _
+    (descend-leaf _ pre (pointed .before .if1 .taken) _
+    (subst (Ends _ _ _ _ _ _) (sym (c .leaf-number .ensures)) (stop-ends (descend-seek pre) _ (seek .seek .ensures) _ _ (deep2 .deep2 .ensures ∙ depth .depth .ensures) (pointed .pointer .ensures .0))))
 
 descend-child-requires : (t : ℕ) → descend-lts.Need-child-requires (descend-claims t) (descend-at t) descend.Post
 descend-child-requires t c κs =
@@ -124,7 +143,7 @@ descend-descend-requires t c κs =
       omega (arith, start .pre .0),
       record {
         page-is = told _ he hw (descend-down _ (c .before .if1 .left) pre _ (seek .seek .ensures) _ (c .child .ensures));
-        trail-low = stop-trail (descend-seek pre) _ (seek .seek .ensures) (start .pre .1 .trail-low) (omega (arith, he, start .pre .1 .entries-high));
+        trail-low = stop-trail (descend-seek pre) _ (seek .seek .ensures) (start .pre .1 .trail-low);
         entries-high = start .pre .1 .entries-high;
       },
     )
@@ -137,10 +156,7 @@ descend-returns-2 t c =
     let start = read .before .before in
     let he = read .read .ensures .entries in
     let hw = deep .deep .ensures ∙ read .read .ensures .width in
-    record {
-      leaf = up _ he hw _ (descend-up _ (c .before .before .if1 .left) (held _ he hw (start .pre .1 .page-is)) _ (seek .seek .ensures) _ (c .before .child .ensures) _ (down _ he hw _ (c .descend .ensures .leaf)));
-      stands = c .descend .ensures .stands;
-    }
+    up _ he hw _ (descend-up _ (c .before .before .if1 .left) (held _ he hw (start .pre .1 .page-is)) _ (seek .seek .ensures) _ (c .before .child .ensures) _ (down _ he hw _ (c .descend .ensures)))
 
 pub +descend-spec : {M : Type 1} → statement M
 +descend-spec = close μ-descend λ t. descend-lts.spec (descend-claims t)
@@ -149,7 +165,10 @@ pub +descend-spec : {M : Type 1} → statement M
     (descend-read-requires t)
     (descend-deep-requires t)
     (descend-seek-requires t)
-    (descend-place-number-requires t)
+    (descend-pointer-requires t)
+    (descend-depth-requires t)
+    (descend-deep-requires-2 t)
+    (descend-leaf-number-requires t)
     (descend-returns t)
     (descend-child-requires t)
     (descend-sub-descend t)

@@ -1,6 +1,6 @@
 -- The first of the bits left, or w + 1 where none is. Assumes nothing.
 use borrow.Author.Needs.{needs}
-use Rattle.table_search.proofs.BitsAhead.{next-first, last-low}
+use Rattle.table_search.proofs.BitsAhead.{next-first, last-bits-low}
 use Rattle.table_search.proofs.next_position.Statement.{statement}
 use Rattle.table_search.proofs.next_position.Tie as tie
 
@@ -8,7 +8,7 @@ last-bits-requires : tie.Need-last-bits-requires
 last-bits-requires c κs = search needs
 
 first-position-requires : tie.Need-first-position-requires
-first-position-requires c κs = (c .before .pre .0, last-low _ _ _ _ (c .last-bits .ensures))
+first-position-requires c κs = (c .before .pre .0, last-bits-low _ _ _ _ (c .last-bits .ensures))
 
 returns : tie.Need-returns
 returns c =

@@ -95,27 +95,27 @@ abbrev page-ok-μ-loop : page-ok-lts.MeasureT-loop
 page-ok-μ-loop index keys used masks map₀ h level page c table n scan₀ i₀ map scan i = n - i
 
 -- The page was met.
-met : (t : ℕ) (c : page-ok-lts.Else1 (page-ok-claims t) (page-ok-at t) page-ok.Post page-ok-Inv-loop page-ok-μ-loop) → let a = c .before .before .before .before .before .before .before .before .before .before .args in
+met : (t : ℕ) (c : page-ok-lts.Else1 (page-ok-claims t) (page-ok-at t) page-ok.Post page-ok-Inv-loop page-ok-μ-loop) → let a = c .before .before .before .before .before .before .before .args in
     MetPage (a .h) (a .index .now .now) (a .keys .now .now) (a .used .now .now) (a .masks .now .now) (a .level) (a .page .0) (a .map .now) (c .before .before .before .enter .last .1 .0) (a .s)
-met t c = met-page (c .before .before .before .before .before .before .before .before .before .before .pre .1) (c .before .before .before .enter .ensures) (not-false _ (c .if1 .left))
+met t c = met-page (c .before .before .before .before .before .before .before .pre .1) (c .before .before .before .enter .ensures) (not-false _ (c .if1 .left))
 
 page-ok-enter-requires : (t : ℕ) → page-ok-lts.Need-enter-requires (page-ok-claims t) (page-ok-at t) page-ok.Post page-ok-Inv-loop page-ok-μ-loop
-page-ok-enter-requires t c κs = (c .before .before .before .before .before .before .pre .1 .table, c .before .before .before .before .before .before .pre .1 .long)
+page-ok-enter-requires t c κs = (c .before .before .before .pre .1 .table, c .before .before .before .pre .1 .long)
 
 page-ok-same-length : (t : ℕ) → page-ok-lts.Need-same-length (page-ok-claims t) (page-ok-at t) page-ok.Post page-ok-Inv-loop page-ok-μ-loop
 page-ok-same-length t c = search needs
 
 page-ok-returns : (t : ℕ) → page-ok-lts.Need-returns (page-ok-claims t) (page-ok-at t) page-ok.Post page-ok-Inv-loop page-ok-μ-loop
-page-ok-returns t c = walked-refused (c .before .before .before .before .before .before .before .before .before .before .pre .1) (c .before .before .before .enter .ensures) (not-true _ (c .if1 .taken)) _ one-fault
+page-ok-returns t c = walked-refused (c .before .before .before .before .before .before .before .pre .1) (c .before .before .before .enter .ensures) (not-true _ (c .if1 .taken)) _ one-fault
 
 page-ok-scan-leaves-requires : (t : ℕ) → page-ok-lts.Need-scan-leaves-requires (page-ok-claims t) (page-ok-at t) page-ok.Post page-ok-Inv-loop page-ok-μ-loop
-page-ok-scan-leaves-requires t c κs = leaves-pre (met t (c .before))
+page-ok-scan-leaves-requires t c κs = leaves-pre (met t (c .before .before .before .before))
 
 page-ok-same-length-2 : (t : ℕ) → page-ok-lts.Need-same-length-2 (page-ok-claims t) (page-ok-at t) page-ok.Post page-ok-Inv-loop page-ok-μ-loop
-page-ok-same-length-2 t c = met-long (met t (c .before .before))
+page-ok-same-length-2 t c = met-long (met t (c .before .before .before .before .before))
 
 page-ok-returns-2 : (t : ℕ) → page-ok-lts.Need-returns-2 (page-ok-claims t) (page-ok-at t) page-ok.Post page-ok-Inv-loop page-ok-μ-loop
-page-ok-returns-2 t c = walked-leaves (met t (c .before .before)) (c .before .if2 .taken) (c .scan-leaves .ensures)
+page-ok-returns-2 t c = walked-leaves (met t (c .before .before .before .before .before)) (c .before .before .before .before .if2 .taken) (c .scan-leaves .ensures)
 
 page-ok-count-requires : (t : ℕ) → page-ok-lts.Need-count-requires (page-ok-claims t) (page-ok-at t) page-ok.Post page-ok-Inv-loop page-ok-μ-loop
 page-ok-count-requires t c κs = leaves-pre (met t (c .before)) .within
@@ -127,7 +127,7 @@ page-ok-loop-holds : (t : ℕ) → page-ok-lts.Need-loop-holds (page-ok-claims t
 page-ok-loop-holds t c = (row-start _ _ _ (c .wide .ensures .0 ∙ c .before .count .ensures) (met-marked (met t (c .before .before .before))) (met t (c .before .before .before) .pre .carried), refl)
 
 page-ok-depth-requires : (t : ℕ) → page-ok-lts.Need-depth-requires (page-ok-claims t) (page-ok-at t) page-ok.Post page-ok-Inv-loop page-ok-μ-loop
-page-ok-depth-requires t c κs = let l = leaves-pre (met t (c .before .before .before .before .before)) in (l .within, entry-few (c .before .before .before .before .before .before .before .before .before .before .before .before .before .before .before .args .h) _ _ _ _ (c .before .before .wide .ensures .0 ∙ c .before .before .before .count .ensures) (l .few) (c .loop-test .taken))
+page-ok-depth-requires t c κs = let l = leaves-pre (met t (c .before .before .before .before .before)) in (l .within, entry-few (c .before .before .before .before .before .before .before .before .before .before .before .before .args .h) _ _ _ _ (c .before .before .wide .ensures .0 ∙ c .before .before .before .count .ensures) (l .few) (c .loop-test .taken))
 
 page-ok-add-closes : (t : ℕ) → page-ok-lts.Need-add-closes (page-ok-claims t) (page-ok-at t) page-ok.Post page-ok-Inv-loop page-ok-μ-loop
 page-ok-add-closes t c = search needs
@@ -142,16 +142,16 @@ page-ok-returns-3 : (t : ℕ) → page-ok-lts.Need-returns-3 (page-ok-claims t) 
 page-ok-returns-3 t c = walked-row-no (met t (c .before .before .before .before .before .before .before .before)) one-fault (row-depth (c .before .before .before .before .loop .inv .0) (c .before .before .before .loop-test .taken) _ (c .before .before .depth .ensures) (sym (c .before .closes .ensures) ∙ not-true _ (c .if3 .taken)) _ one-fault)
 
 page-ok-child-requires : (t : ℕ) → page-ok-lts.Need-child-requires (page-ok-claims t) (page-ok-at t) page-ok.Post page-ok-Inv-loop page-ok-μ-loop
-page-ok-child-requires t c κs = let l = leaves-pre (met t (c .before .before .before .before .before .before .before .before)) in (l .within, entry-few (c .before .before .before .before .before .before .before .before .before .before .before .before .before .before .before .before .before .before .args .h) _ _ _ _ (c .before .before .before .before .before .wide .ensures .0 ∙ c .before .before .before .before .before .before .count .ensures) (l .few) (c .before .before .before .loop-test .taken))
+page-ok-child-requires t c κs = let l = leaves-pre (met t (c .before .before .before .before .before .before .before .before)) in (l .within, entry-few (c .before .before .before .before .before .before .before .before .before .before .before .before .before .before .before .args .h) _ _ _ _ (c .before .before .before .before .before .wide .ensures .0 ∙ c .before .before .before .before .before .before .count .ensures) (l .few) (c .before .before .before .loop-test .taken))
 
 page-ok-child-ok-requires : (t : ℕ) → page-ok-lts.Need-child-ok-requires (page-ok-claims t) (page-ok-at t) page-ok.Post page-ok-Inv-loop page-ok-μ-loop
-page-ok-child-ok-requires t c κs = let m = c .before .before .before .before .before .before .before .before .before .before .before .before .before .before .before .before .before .before .before .before .pre .0 in let l = c .before .before .before .before .before .before .before .before .before .if2 .left in let inv = c .before .before .before .before .before .before .loop .inv in (omega (arith, m, l), (walk-on (met t (c .before .before .before .before .before .before .before .before .before .before)) _ _ (inv .1) (inv .0 .turned .marked) (inv .0 .turned .carried), omega (arith, l)))
+page-ok-child-ok-requires t c κs = let m = c .before .before .before .before .before .before .before .before .before .before .before .before .before .before .before .before .before .pre .0 in let l = c .before .before .before .before .before .before .before .before .before .if2 .left in let inv = c .before .before .before .before .before .before .loop .inv in (omega (arith, m, l), (walk-on (met t (c .before .before .before .before .before .before .before .before .before .before)) _ _ (inv .1) (inv .0 .turned .marked) (inv .0 .turned .carried), omega (arith, l)))
 
 page-ok-same-length-4 : (t : ℕ) → page-ok-lts.Need-same-length-4 (page-ok-claims t) (page-ok-at t) page-ok.Post page-ok-Inv-loop page-ok-μ-loop
 page-ok-same-length-4 t c = c .before .before .before .before .child-ok .kept .1 .1 .1 .1 .0 ∙ c .before .before .before .before .before .before .before .before .before .before .before .loop .inv .1 ∙ met-long (met t (c .before .before .before .before .before .before .before .before .before .before .before .before .before .before .before))
 
 page-ok-returns-4 : (t : ℕ) → page-ok-lts.Need-returns-4 (page-ok-claims t) (page-ok-at t) page-ok.Post page-ok-Inv-loop page-ok-μ-loop
-page-ok-returns-4 t c = let a = c .before .before .before .before .before .before .before .before .before .before .before .before .before .before .before .before .before .before .before .before .before .before .before .before .before .args in walked-row-no (met t (c .before .before .before .before .before .before .before .before .before .before .before .before .before .before .before)) (c .if4 .taken)
+page-ok-returns-4 t c = let a = c .before .before .before .before .before .before .before .before .before .before .before .before .before .before .before .before .before .before .before .before .before .before .args in walked-row-no (met t (c .before .before .before .before .before .before .before .before .before .before .before .before .before .before .before)) (c .if4 .taken)
     (row-entry (c .before .before .before .before .before .before .before .before .before .before .before .loop .inv .0) (c .before .before .before .before .before .before .before .before .before .before .loop-test .taken) (walked-at (entryAt (a .h) (a .index .now .now) (a .page .0) _) (c .before .before .before .before .before .before .before .before .before .depth .ensures) (c .before .before .before .before .before .before .child .ensures) (c .before .before .before .before .child-ok .ensures) .scanned) (c .if4 .taken))
 
 page-ok-add-i : (t : ℕ) → page-ok-lts.Need-add-i (page-ok-claims t) (page-ok-at t) page-ok.Post page-ok-Inv-loop page-ok-μ-loop
@@ -161,7 +161,7 @@ page-ok-loop-less : (t : ℕ) → page-ok-lts.Need-loop-less (page-ok-claims t) 
 page-ok-loop-less t c = search needs
 
 page-ok-loop-again : (t : ℕ) → page-ok-lts.Need-loop-again (page-ok-claims t) (page-ok-at t) page-ok.Post page-ok-Inv-loop page-ok-μ-loop
-page-ok-loop-again t c = let a = c .before .before .before .before .before .before .before .before .before .before .before .before .before .before .before .before .before .before .before .before .before .before .before .before .before .before .args in let x = walked-at (entryAt (a .h) (a .index .now .now) (a .page .0) _) (c .before .before .before .before .before .before .before .before .before .before .depth .ensures) (c .before .before .before .before .before .before .before .child .ensures) (c .before .before .before .before .before .child-ok .ensures) in let o = c .before .if4 .left in (
+page-ok-loop-again t c = let a = c .before .before .before .before .before .before .before .before .before .before .before .before .before .before .before .before .before .before .before .before .before .before .before .args in let x = walked-at (entryAt (a .h) (a .index .now .now) (a .page .0) _) (c .before .before .before .before .before .before .before .before .before .before .depth .ensures) (c .before .before .before .before .before .before .before .child .ensures) (c .before .before .before .before .before .child-ok .ensures) in let o = c .before .if4 .left in (
   row-more (c .before .before .before .before .before .before .before .before .before .before .before .before .loop .inv .0) (c .before .before .before .before .before .before .before .before .before .before .before .loop-test .taken) (x .scanned) o _ (c .before .before .before .before .before .before .before .before .before .before .depth .ensures) (sym (c .before .before .before .before .before .before .before .before .before .closes .ensures) ∙ not-false _ (c .before .before .before .before .before .before .before .before .if3 .left)) _ (x .marks o),
   c .before .before .before .before .before .child-ok .kept .1 .1 .1 .1 .0 ∙ c .before .before .before .before .before .before .before .before .before .before .before .before .loop .inv .1,
 )

@@ -6,15 +6,15 @@ use native.Mathlib.Omega.{arith}
 use lib.ListN.{length, getD}
 use Rattle.index_table.proofs.Pointers.{dummy-pointer, live-pointer}
 use Rattle.table_find.specs.Answers.{withRecord}
-use Rattle.table_find.proofs.FoundLeaves.{found-at, dummy-absent, other-absent, live-found, live-inside}
+use Rattle.table_find.proofs.FoundLeaves.{found-read, dummy-absent, other-absent, live-found, live-inside}
 use Rattle.table_find.proofs.find.find_held.Statement.{statement}
 use Rattle.table_find.proofs.find.find_held.Tie as tie
 
-place-of-requires : tie.Need-place-of-requires
-place-of-requires c κs = search needs
+found-number-requires : tie.Need-found-number-requires
+found-number-requires c κs = search needs
 
-leaf-at-requires : tie.Need-leaf-at-requires
-leaf-at-requires c κs = c .place-of .ensures .stands
+numbered-leaf-requires : tie.Need-numbered-leaf-requires
+numbered-leaf-requires c κs = search needs
 
 answer-of-requires : tie.Need-answer-of-requires
 answer-of-requires c κs = search needs
@@ -32,7 +32,7 @@ returns : tie.Need-returns
 returns c =
     let answer = c .before .before .before in
     let start = answer .before .before .before .before .before .before in
-    c .plain .ensures ∙ dummy-absent (start .pre .0) _ (start .pre .1) _ (found-at (answer .before .before .place-of .ensures) (answer .before .leaf-at .ensures)) (dummy-pointer _ _ (answer .answer-of .ensures) (c .before .enum-told .given .1))
+    c .plain .ensures ∙ dummy-absent (start .pre .0) _ (start .pre .1) _ (found-read (answer .before .before .found-number .ensures) (answer .before .numbered-leaf .ensures)) (dummy-pointer _ _ (answer .answer-of .ensures) (c .before .enum-told .given .1))
 
 cast-at : tie.Need-cast-at
 cast-at c = search needs
@@ -46,7 +46,7 @@ shared-slice-read-if1 c =
     let answer = at .before .before in
     let start = answer .before .before .before .before .before .before in
     let live = live-pointer _ _ _ (answer .answer-of .ensures) (at .answer .given .1) in
-    subst (λ (n : ℕ). n < length (start .args .keys .now)) (live .1) (live-inside (start .pre .0) _ (start .pre .1) _ (found-at (answer .before .before .place-of .ensures) (answer .before .leaf-at .ensures)) (live .0))
+    subst (λ (n : ℕ). n < length (start .args .keys .now)) (live .1) (live-inside (start .pre .0) _ (start .pre .1) _ (found-read (answer .before .before .found-number .ensures) (answer .before .numbered-leaf .ensures)) (live .0))
 
 plain-requires-2 : tie.Need-plain-requires-2
 plain-requires-2 c κs = search needs
@@ -58,7 +58,7 @@ returns-2 c =
     let start = answer .before .before .before .before .before .before in
     let live = live-pointer _ _ _ (answer .answer-of .ensures) (at .answer .given .1) in
     c .plain2 .ensures
-    ∙ other-absent (start .pre .0) _ (start .pre .1) _ (found-at (answer .before .before .place-of .ensures) (answer .before .leaf-at .ensures)) (live .0) (subst (λ (n : ℕ). getD (start .args .keys .now) n 0 ≡ start .args .key → ⊥) (sym (live .1)) (λ q. omega arith))
+    ∙ other-absent (start .pre .0) _ (start .pre .1) _ (found-read (answer .before .before .found-number .ensures) (answer .before .numbered-leaf .ensures)) (live .0) (subst (λ (n : ℕ). getD (start .args .keys .now) n 0 ≡ start .args .key → ⊥) (sym (live .1)) (λ q. omega arith))
 
 with-record-requires : tie.Need-with-record-requires
 with-record-requires c κs = search needs
@@ -70,14 +70,14 @@ returns-3 c =
     let start = answer .before .before .before .before .before .before in
     let live = live-pointer _ _ _ (answer .answer-of .ensures) (at .answer .given .1) in
     c .with-record .ensures ∙ ap withRecord (sym (live .1))
-    ∙ live-found (start .pre .0) _ (start .pre .1) _ (found-at (answer .before .before .place-of .ensures) (answer .before .leaf-at .ensures)) (live .0) (subst (λ (n : ℕ). getD (start .args .keys .now) n 0 ≡ start .args .key) (sym (live .1)) (omega arith))
+    ∙ live-found (start .pre .0) _ (start .pre .1) _ (found-read (answer .before .before .found-number .ensures) (answer .before .numbered-leaf .ensures)) (live .0) (subst (λ (n : ℕ). getD (start .args .keys .now) n 0 ≡ start .args .key) (sym (live .1)) (omega arith))
 
 pub find-held-spec : {M : Type 1} → statement M
 find-held-spec =
     tie.close
     (tie.spec
-    place-of-requires
-    leaf-at-requires
+    found-number-requires
+    numbered-leaf-requires
     answer-of-requires
     enum-known-answer
     enum-told

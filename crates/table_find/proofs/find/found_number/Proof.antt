@@ -3,8 +3,8 @@ use borrow.Author.Needs.{needs}
 use native.Mathlib.Omega.{arith}
 use Rattle.index_table.proofs.SoundTables.{header-long}
 use Rattle.table_find.proofs.FoundLeaves.{root-page, width-high, key-narrow, descend-start, descend-end}
-use Rattle.table_find.proofs.find.place_of.Statement.{statement}
-use Rattle.table_find.proofs.find.place_of.Tie as tie
+use Rattle.table_find.proofs.find.found_number.Statement.{statement}
+use Rattle.table_find.proofs.find.found_number.Tie as tie
 
 read-requires : tie.Need-read-requires
 read-requires c κs = header-long (c .before .before .before .pre .0)
@@ -40,13 +40,10 @@ returns c =
     let deep = level .before in
     let read = deep .before in
     let start = read .before .before .before .before in
-    record {
-      leaf = descend-end (start .pre .0) _ (read .read .ensures) _ _ _ (deep .deep .ensures) (level .level .ensures) (start .pre .1) _ _ (next .next-position .ensures) (c .descend .ensures .leaf);
-      stands = c .descend .ensures .stands;
-    }
+    descend-end (start .pre .0) _ (read .read .ensures) _ _ _ (deep .deep .ensures) (level .level .ensures) (start .pre .1) _ _ (next .next-position .ensures) (c .descend .ensures)
 
-pub place-of-spec : {M : Type 1} → statement M
-place-of-spec =
+pub found-number-spec : {M : Type 1} → statement M
+found-number-spec =
     tie.close
     (tie.spec
     read-requires
