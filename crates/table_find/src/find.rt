@@ -24,7 +24,7 @@ fn found_number(index: &[u8], keys: &[u64], used: &[u8], key: u64) -> u64
     table_search::descend(&index, level, h.root, key, position, 0)
 }
 
-// The entry.
+// The entry itself.
 pub fn leaf_of(index: &[u8], keys: &[u64], used: &[u8], key: u64) -> Leaf
     requires { ⌜ Sound (now index) (now keys) (now used) × (key < 2 ^ widthOf (now index)) ⌝ }
     ensures { λ r. ⌜ FoundLeaf (now (index .entry)) (now (keys .entry)) (now (used .entry)) key r ⌝ }
