@@ -80,10 +80,10 @@ module _ {index : List ℕ} {key : ℕ} (c : Changeable index key) (h : Index) (
     pub take-pre : (leaf : Leaf) → OffPagesPre index key leaf → TakeAtPre index (h .entries) (h .pages) level (h .root .0) w key leaf
     take-pre leaf o =
         rw (level-is, width-is, i .entries, i .pages, i .root)
-        (record { take = record { tree = c .tree; narrow = c .narrow; beside = o .beside }; first = o .first; begins = o .begins; way = o .way })
+        (record { take = record { tree = c .tree; narrow = c .narrow; beside = o .beside; later = o .later }; first = o .first; begins = o .begins; way = o .way })
 
     pub off-repaged : (b : List ℕ) (r : Root) (rooted index₁ : List ℕ) → TakePost index (h .entries) (h .pages) level (h .root .0) w key b r
-        → rooted ≡ withRoot b (r .page .0) → index₁ ≡ withHeld rooted (h .held - 1) → Repaged index (offNumbered (widthOf index) key (numberedTreeOf index)) (heldOf index - 1) index₁
+        → rooted ≡ withRoot b (r .page .0) → index₁ ≡ withHeld rooted (h .held - 1) → Repaged index (offNumbered (widthOf index) (entriesOf index) key (numberedTreeOf index)) (heldOf index - 1) index₁
     off-repaged b r rooted index₁ p f g =
         let q : TakePost index (entriesOf index) (pagesOf index) (rootLevel index) (rootOf index) (widthOf index) key b r = rw (level-is, width-is, i .entries, i .pages, i .root) at p in
         record { bytes = b; level = r .level; root = r .page .0; long = q .long; front = q .front; pages = q .pages; tree = q .tree; written = rw (← i .held, ← f) g }

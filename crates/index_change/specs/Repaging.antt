@@ -7,13 +7,15 @@ use lib.Dec.{leb, ltb}
 use lib.ListN.{length, take}
 use Rattle.leaf_list.specs.Keys.{bits}
 use Rattle.leaf_list.specs.Search.{positions}
+use Rattle.leaf_list.specs.Depths.{LeafDepths}
 use Rattle.leaf_list.proofs.Depths.{Neighbours}
 use Rattle.leaf_list.specs.Entries.{depthOf}
 use Rattle.page_tree.specs.Row.{rowOf}
 use Rattle.page_tree.specs.Rows.{All, Closed}
 use Rattle.page_tree.specs.Finding.{Found, findIn}
-use Rattle.page_tree.specs.Tree.{Tree, pagesOf as treePages}
+use Rattle.page_tree.specs.Tree.{Tree, leavesOf, pagesOf as treePages}
 use Rattle.page_tree.specs.OnPages.{insertTree}
+use Rattle.page_tree.specs.OffPages.{offTree}
 use Rattle.page_tree.specs.Numbered.{NumberedTree, insertNumberedTree}
 use Rattle.page_tree.specs.declared.Row.{Row}
 use Rattle.index_table.specs.Layout.{layoutOf, pageBytes, levelOf, Ref, Fitting, rowPage, store}
@@ -50,6 +52,8 @@ pub record Repaged (index : List ℕ) (t : NumberedTree) (held : ℕ) (index₁ 
 pub record OffPagesPre (index : List ℕ) (key : ℕ) (leaf : Leaf) : Type 0 where
   pub changeable : Changeable index key
   pub beside : Neighbours (leafEntries index)
+  -- Without the key the depths are still those of a leaf list.
+  pub later : LeafDepths (widthOf index) (leavesOf (offTree (widthOf index) (entriesOf index) key (treeOf index)))
   pub some : 1 ≤ heldOf index
   -- The way from the root to the entry found, begun at the key's first position.
   pub first : ℕ

@@ -18,7 +18,7 @@ use table_search::Leaf;
 // The entry that figure 6 finds for a key, at the leaf, is taken out.
 pub fn strike_pages(index: &mut [u8], key: u64, leaf: Leaf)
     requires { ⌜ OffPagesPre (now index) key leaf ⌝ }
-    ensures { λ r. ⌜ Repaged (now (index .entry)) (offNumbered (widthOf (now (index .entry))) key (numberedTreeOf (now (index .entry)))) (heldOf (now (index .entry)) - 1) (now (index .exit)) ⌝ }
+    ensures { λ r. ⌜ Repaged (now (index .entry)) (offNumbered (widthOf (now (index .entry))) (entriesOf (now (index .entry))) key (numberedTreeOf (now (index .entry)))) (heldOf (now (index .entry)) - 1) (now (index .exit)) ⌝ }
 {
     let h = index_table::header::read(index);
     let level = index_table::layout::level(index, h.entries, h.root);

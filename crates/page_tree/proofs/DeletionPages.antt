@@ -1,6 +1,6 @@
 -- Deletion takes no page. Assumes nothing.
 use mathlib.Core.Bool.{Bool, true, false, cond}
-use mathlib.Core.List.{List, [], _∷_, _++_}
+use mathlib.Core.List.{List, [], _∷_, _++_, map}
 use Prim.Native.Nat.{ℕ, zero, suc, _+_, _≤_}
 use native.Mathlib.Omega.{arith}
 use lib.Dec.{ltb}
@@ -9,9 +9,11 @@ use Rattle.page_tree.specs.declared.Unwind.{Unwind}
 use Rattle.page_tree.specs.Rows.{flats, sum}
 use Rattle.page_tree.specs.Tree.{Node, depth, leaves, pageCount, Tree, pagesOf}
 use Rattle.page_tree.specs.Walk.{rest}
+use Rattle.page_tree.specs.Merging.{mergePage}
 use Rattle.page_tree.specs.OffPages.{Left, Step, stepEntry, over, sweep, unlessEmpty, stepBelow, nextDepth, strike, strikeIn, deleteBelow, lower, rooted, deleteTree}
 use Rattle.page_tree.proofs.ListLaws.{sum-append}
 use Rattle.page_tree.proofs.TreeLaws.{entries-pages}
+use Rattle.page_tree.proofs.MergingLaws.{mergePage-pages}
 
 -- An emptied page is none.
 pub unlessEmpty-pages : (n : ℕ) (row : List (Node n)) → sum (pageCount (suc n)) (unlessEmpty row) ≤ suc (sum (pageCount n) row)
@@ -74,9 +76,9 @@ lower-pages (suc n) (x ∷ []) = omega (arith, lower-pages n x)
 lower-pages (suc n) (x ∷ y ∷ ys) = omega arith
 
 -- There are never more pages than before.
-pub deleteTree-pages : (bs : List ℕ) (t : Tree) → pagesOf (deleteTree bs t) ≤ pagesOf t
-deleteTree-pages bs t = go (deleteBelow (suc (t .0)) 0 bs 0 (t .1) .0) (deleteBelow-pages (suc (t .0)) 0 bs 0 (t .1))
+pub deleteTree-pages : (E : ℕ) (bs : List ℕ) (t : Tree) → pagesOf (deleteTree E bs t) ≤ pagesOf t
+deleteTree-pages E bs t = go (deleteBelow (suc (t .0)) 0 bs 0 (t .1) .0) (deleteBelow-pages (suc (t .0)) 0 bs 0 (t .1))
   where
-    go : (left : List (Node (suc (t .0)))) → sum (pageCount (suc (t .0))) left ≤ pagesOf t → pagesOf (rooted (t .0) left) ≤ pagesOf t
+    go : (left : List (Node (suc (t .0)))) → sum (pageCount (suc (t .0))) left ≤ pagesOf t → pagesOf (rooted (t .0) (map (mergePage E (t .0) bs) left)) ≤ pagesOf t
     go [] i = omega arith
-    go (x ∷ xs) i = omega (arith, lower-pages (t .0) x)
+    go (x ∷ xs) i = omega (arith, lower-pages (t .0) (mergePage E (t .0) bs x), mergePage-pages E (t .0) bs x)

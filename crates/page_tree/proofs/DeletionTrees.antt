@@ -1,6 +1,6 @@
 -- Deletion from a whole tree (01, "while the root is above level 0 with one entry, its child becomes root"). Assumes nothing.
 use mathlib.Core.Path.{_≡_, refl, ap, sym, _∙_}
-use mathlib.Core.List.{List, [], _∷_, append-nil}
+use mathlib.Core.List.{List, [], _∷_, append-nil, map}
 use Prim.Native.Nat.{ℕ, zero, suc}
 use native.Mathlib.Omega.{arith}
 use Rattle.leaf_list.specs.Entries.{Entry}
@@ -10,9 +10,11 @@ use Rattle.page_tree.specs.declared.Unwind.{Unwind}
 use Rattle.page_tree.specs.declared.Unwind.the-variants.{Idle, Give, Clear}
 use Rattle.page_tree.specs.Rows.{flats}
 use Rattle.page_tree.specs.Tree.{Node, depth, leaves, Sound, Tree, leavesOf, SoundTree, RootRule}
+use Rattle.page_tree.specs.Merging.{mergePage}
 use Rattle.page_tree.specs.OffPages.{Left, stepBelow, unlessEmpty, strikeIn, deleteBelow, lower, rooted, deleteTree}
 use Rattle.page_tree.proofs.DeletionLeaves.{flats-unlessEmpty, deleteFlat, deleteBelow-leaves}
 use Rattle.page_tree.proofs.DeletionSound.{Remains, deleteBelow-remains}
+use Rattle.page_tree.proofs.MergingLaws.{mergePage-leaves, mergePage-sound}
 
 -- After lowering, "a root above level 0 has at least two entries".
 pub lower-root : (E n : ℕ) (page : Node (suc n)) → Sound E (suc n) page → RootRule (lower n page)
@@ -35,17 +37,17 @@ lower-leaves (suc n) [] = refl
 lower-leaves (suc n) (x ∷ []) = lower-leaves n x ∙ sym (append-nil (leaves (suc n) x))
 lower-leaves (suc n) (x ∷ y ∷ ys) = refl
 
--- The tree over what is left of the root's row.
-pub rooted-leaves : (n : ℕ) (row : List (Node n)) → leavesOf (rooted n (unlessEmpty row)) ≡ flats (leaves n) row
-rooted-leaves n [] = refl
-rooted-leaves n (x ∷ xs) = lower-leaves n (x ∷ xs)
+-- The tree over what is left of the root's row, once it is merged.
+pub merged-leaves : (E n : ℕ) (bs : List ℕ) (row : List (Node n)) → leavesOf (rooted n (map (mergePage E n bs) (unlessEmpty row))) ≡ flats (leaves n) row
+merged-leaves E n bs [] = refl
+merged-leaves E n bs (x ∷ xs) = lower-leaves n (mergePage E n bs (x ∷ xs)) ∙ mergePage-leaves E n bs (x ∷ xs)
 
 -- On level 0, figure 11 over the whole list.
 pub deleteTree-leaves : (E : ℕ) (bs : List ℕ) (t : Tree) → SoundTree E t → Rising bs → Beyond (depth (suc (t .0)) (t .1)) bs
-    → leavesOf (deleteTree bs t) ≡ deleteFlat 0 bs 0 (leavesOf t) .0
+    → leavesOf (deleteTree E bs t) ≡ deleteFlat 0 bs 0 (leavesOf t) .0
 deleteTree-leaves E bs t s a e =
     let row = strikeIn (depth (t .0)) (leaves (t .0)) (stepBelow (t .0)) (deleteBelow (t .0)) 0 bs 0 (t .1) .0 in
-    rooted-leaves (t .0) row
+    merged-leaves E (t .0) bs row
     ∙ sym (flats-unlessEmpty (leaves (t .0)) row)
     ∙ sym (append-nil (flats (leaves (suc (t .0))) (unlessEmpty row)))
     ∙ ap (λ (r : Left Entry). r .0) (deleteBelow-leaves E (suc (t .0)) 0 bs 0 (t .1) [] s a e)
@@ -54,14 +56,16 @@ deleteTree-leaves E bs t s a e =
 -- The pages' rules and the root's hold afterwards.
 pub deleteTree-sound : (E : ℕ) (bs : List ℕ) (t : Tree) → SoundTree E t → Rising bs → depth (suc (t .0)) (t .1) ≡ 0 → Beyond 0 bs
     → Neighbours (leavesOf t)
-    → SoundTree E (deleteTree bs t) × RootRule (deleteTree bs t)
+    → SoundTree E (deleteTree E bs t) × RootRule (deleteTree E bs t)
 deleteTree-sound E bs t s a z e r =
     go (deleteBelow (suc (t .0)) 0 bs 0 (t .1) .0) (deleteBelow (suc (t .0)) 0 bs 0 (t .1) .1)
     (rw z at (deleteBelow-remains E (suc (t .0)) 0 bs 0 (t .1) s r a (rw z e)))
   where
     go : (left : List (Node (suc (t .0)))) (w : Unwind) → Remains (depth (suc (t .0))) (Sound E (suc (t .0))) 0 0 1 left w
-        → SoundTree E (rooted (t .0) left) × RootRule (rooted (t .0) left)
+        → SoundTree E (rooted (t .0) (map (mergePage E (t .0) bs) left)) × RootRule (rooted (t .0) (map (mergePage E (t .0) bs) left))
     go [] Idle q = absurd q
     go [] (Give d) q = absurd (omega (arith, q .1))
     go [] (Clear d) q = absurd (omega (arith, q .1))
-    go (x ∷ xs) w q = (lower-sound E (t .0) x (q .0 .good .0), lower-root E (t .0) x (q .0 .good .0))
+    go (x ∷ xs) w q =
+        let m = mergePage-sound E (t .0) bs x (q .0 .good .0) in
+        (lower-sound E (t .0) (mergePage E (t .0) bs x) (m .sound), lower-root E (t .0) (mergePage E (t .0) bs x) (m .sound))

@@ -140,7 +140,7 @@ module _ (w E : ℕ) (s : Herd) (t : Tree) (narrow : Narrow w s) (sorted : Sorte
       on-rows e v = (omega (arith, on-row-short), omega (arith, on-roots-short))
 
   -- Off, of a held key: afterwards the tree is sound over the leaf list of the herd without the key.
-  pub off-pages : (key r : ℕ) → key < 2 ^ w → lookup key s ≡ some r → HerdTree w E (remove key s) (offTree w key t)
+  pub off-pages : (key r : ℕ) → key < 2 ^ w → lookup key s ≡ some r → HerdTree w E (remove key s) (offTree w E key t)
   off-pages key r n a =
       let k : Key = bits w key in
       let beside : Neighbours (leavesOf t) = rw (h .level0) (neighbours-law w s narrow sorted) in

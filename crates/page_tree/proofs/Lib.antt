@@ -18,6 +18,9 @@ pub mod InsertionPages
 pub mod DeletionLeaves
 pub mod DeletionSteps
 pub mod DeletionSound
+pub mod MergingRows
+pub mod MergingLaws
+pub mod MergingPlaces
 pub mod DeletionTrees
 pub mod DeletionPages
 pub mod LastAlone

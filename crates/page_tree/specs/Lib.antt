@@ -5,5 +5,6 @@ pub mod Walk
 pub mod Finding
 pub mod OnPages
 pub mod Numbered
+pub mod Merging
 pub mod OffPages
 pub mod Row

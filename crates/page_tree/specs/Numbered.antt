@@ -1,5 +1,5 @@
 -- Trees of pages with the pages' numbers, and what on and off make of them (01, "What the contracts carry"). Assumes nothing.
-use mathlib.Core.List.{List, [], _∷_, map}
+use mathlib.Core.List.{List, [], _∷_, _++_, map}
 use Prim.Native.Nat.{ℕ, zero, suc}
 use lib.ListN.{length}
 use Rattle.leaf_list.specs.Keys.{bits}
@@ -8,6 +8,7 @@ use Rattle.leaf_list.specs.Search.{positions}
 use Rattle.page_tree.specs.Tree.{Node, depth, leaves, Tree}
 use Rattle.page_tree.specs.Cutting.{parts}
 use Rattle.page_tree.specs.OnPages.{Replacement, newEntries, replaceIn}
+use Rattle.page_tree.specs.Merging.{mergeIn}
 use Rattle.page_tree.specs.OffPages.{Left, Step, stepEntry, sweep, strike, strikeIn}
 
 -- What an entry of a page stands for, with page numbers: a page of level n is a Numbered (suc n), its number and the row of its entries.
@@ -92,5 +93,17 @@ abbrev pub rootedNumbered : (n : ℕ) → List (Numbered (suc n)) → NumberedTr
 rootedNumbered n [] = (n, (0, []))
 rootedNumbered n (x ∷ xs) = lowerNumbered n (x .0) (x .1)
 
-abbrev pub offNumbered : ℕ → ℕ → NumberedTree → NumberedTree
-offNumbered w key t = rootedNumbered (t .0) (deleteNumbered (suc (t .0)) 0 (positions 0 (bits w key)) 0 (t .1) .0)
+-- "Which of the two joined pages keeps its number is free": the left one does.
+abbrev pub joinNumbered : (n : ℕ) → Numbered (suc n) → Numbered (suc n) → Numbered (suc n)
+joinNumbered n x y = (x .0, x .1 ++ y .1)
+
+-- A page of level n with all below it, merged along the way of the positions; it keeps its number.
+abbrev pub mergeNumbered : ℕ → (n : ℕ) → List ℕ → Numbered (suc n) → Numbered (suc n)
+mergeNumbered E zero bs page = page
+mergeNumbered E (suc n) bs page =
+    (page .0, mergeIn E (numberedDepth (suc n)) (λ (x : Numbered (suc n)). length (x .1)) (joinNumbered n) (mergeNumbered E n) bs (page .1))
+
+abbrev pub offNumbered : ℕ → ℕ → ℕ → NumberedTree → NumberedTree
+offNumbered w E key t =
+    let bs : List ℕ = positions 0 (bits w key) in
+    rootedNumbered (t .0) (map (mergeNumbered E (t .0) bs) (deleteNumbered (suc (t .0)) 0 bs 0 (t .1) .0))

@@ -1,7 +1,7 @@
 -- Deletion in pages (01, "Deletion is figure 11 over the whole list, across pages"). Assumes nothing.
 use mathlib.Core.Bool.{cond}
 use mathlib.Core.Option.{none, some}
-use mathlib.Core.List.{List, [], _∷_, _++_, foldr}
+use mathlib.Core.List.{List, [], _∷_, _++_, foldr, map}
 use Prim.Native.Nat.{ℕ, zero, suc}
 use lib.Dec.{ltb}
 use Rattle.leaf_list.specs.Keys.{bits}
@@ -12,6 +12,7 @@ use Rattle.page_tree.specs.declared.Unwind.the-variants.{Idle, Give, Cle
 use Rattle.page_tree.specs.Rows.{flats}
 use Rattle.page_tree.specs.Tree.{Node, depth, leaves, Tree}
 use Rattle.page_tree.specs.Walk.{walk}
+use Rattle.page_tree.specs.Merging.{mergePage}
 
 -- What is left in the place of one thing (it, or nothing), and what is asked of the entry before it.
 abbrev pub Left : Type 0 → Type 0
@@ -80,9 +81,9 @@ abbrev pub rooted : (n : ℕ) → List (Node (suc n)) → Tree
 rooted n [] = (n, [])
 rooted n (x ∷ xs) = lower n x
 
--- The tree without the entry found.
-abbrev pub deleteTree : List ℕ → Tree → Tree
-deleteTree bs t = rooted (t .0) (deleteBelow (suc (t .0)) 0 bs 0 (t .1) .0)
+-- The tree without the entry found, its pages merged; "the root rule of 01 comes last".
+abbrev pub deleteTree : ℕ → List ℕ → Tree → Tree
+deleteTree E bs t = rooted (t .0) (map (mergePage E (t .0) bs) (deleteBelow (suc (t .0)) 0 bs 0 (t .1) .0))
 
-abbrev pub offTree : ℕ → ℕ → Tree → Tree
-offTree w key t = deleteTree (positions 0 (bits w key)) t
+abbrev pub offTree : ℕ → ℕ → ℕ → Tree → Tree
+offTree w E key t = deleteTree E (positions 0 (bits w key)) t

@@ -20,7 +20,7 @@ pub data Change : Type 0 where
 -- One change, in pages of E entries of keys of w bits; keys has the key of each record.
 abbrev pub change : ℕ → ℕ → List ℕ → Tree → Change → Tree
 change w E keys t (on r) = onTree w E (λ x. getD keys x 0) (getD keys r 0) r t
-change w E keys t (off r) = offTree w (getD keys r 0) t
+change w E keys t (off r) = offTree w E (getD keys r 0) t
 
 -- All changes, from the empty herd.
 abbrev pub changes : ℕ → ℕ → List ℕ → List Change → Tree
@@ -74,6 +74,63 @@ pub record SmallPages : Type 0 where
             ∷ ((((entry 0 (some 4) ∷ []) ∷ []) ∷ []) ∷ [])
             ∷ [],
       )
+  -- Request (i). P10 less 01000000: its page has one entry left, the page on the right is shallower, and five entries fit; then the root rule: P4.
+  pub merged-right : changes 8 5 keys10 (on 1 ∷ on 2 ∷ on 3 ∷ on 4 ∷ off 4 ∷ []) ≡ changes 8 5 keys10 (on 1 ∷ on 2 ∷ on 3 ∷ [])
+  -- With the left neighbour.
+  pub merged-left :
+      changes 8 5 (234 ∷ 103 ∷ 141 ∷ 115 ∷ []) (on 0 ∷ on 1 ∷ on 2 ∷ on 3 ∷ off 2 ∷ [])
+      ≡ (0, entry 2 none ∷ entry 3 none ∷ entry 4 (some 1) ∷ entry 1 (some 3) ∷ entry 0 (some 0) ∷ [])
+  -- The left neighbour is shallower, so with the right one.
+  pub left-shallower :
+      changes 8 5 (191 ∷ 40 ∷ 210 ∷ 189 ∷ []) (on 0 ∷ on 1 ∷ on 2 ∷ on 3 ∷ off 0 ∷ [])
+      ≡ (1, (entry 1 (some 1) ∷ []) ∷ (entry 2 (some 3) ∷ entry 0 (some 2) ∷ []) ∷ [])
+  -- The left neighbour is full, so with the right one.
+  pub left-full :
+      changes 8 5 (56 ∷ 97 ∷ 127 ∷ 184 ∷ 60 ∷ []) (on 0 ∷ on 1 ∷ on 2 ∷ on 3 ∷ on 4 ∷ off 2 ∷ [])
+      ≡ (
+        1,
+        (entry 3 none ∷ entry 4 none ∷ entry 5 none ∷ entry 6 (some 0) ∷ entry 2 (some 4) ∷ [])
+            ∷ (entry 1 (some 1) ∷ entry 0 (some 3) ∷ [])
+            ∷ [],
+      )
+  -- Between a shallower and a full page it stays alone.
+  pub not-merged :
+      changes 8 5 (207 ∷ 103 ∷ 15 ∷ 206 ∷ []) (on 0 ∷ on 1 ∷ on 2 ∷ on 3 ∷ off 1 ∷ [])
+      ≡ (
+        1,
+        (entry 1 (some 2) ∷ [])
+            ∷ (entry 2 none ∷ [])
+            ∷ (entry 5 none ∷ entry 6 none ∷ entry 7 none ∷ entry 8 (some 3) ∷ entry 0 (some 0) ∷ [])
+            ∷ [],
+      )
+  -- Two of eight entries are a quarter, and not fewer.
+  pub a-quarter :
+      changes 8 8 (152 ∷ 149 ∷ 60 ∷ 173 ∷ 59 ∷ []) (on 0 ∷ on 1 ∷ on 2 ∷ on 3 ∷ on 4 ∷ off 0 ∷ [])
+      ≡ (
+        1,
+        (entry 3 none ∷ entry 4 none ∷ entry 5 none ∷ entry 6 (some 4) ∷ entry 1 (some 2) ∷ []) ∷ (entry 3 (some 1) ∷ entry 0 (some 3) ∷ []) ∷ [],
+      )
+  -- On two levels, and the root rule last.
+  pub merged-twice :
+      changes 8 5 (208 ∷ 78 ∷ 58 ∷ 59 ∷ 162 ∷ 163 ∷ 190 ∷ 178 ∷ []) (on 0 ∷ on 1 ∷ on 2 ∷ on 3 ∷ on 4 ∷ on 5 ∷ on 6 ∷ on 7 ∷ off 3 ∷ [])
+      ≡ (
+        1,
+        (entry 2 (some 2) ∷ entry 1 (some 1) ∷ [])
+            ∷ (entry 3 none ∷ [])
+            ∷ (entry 7 none ∷ entry 8 (some 4) ∷ entry 4 (some 5) ∷ entry 5 (some 7) ∷ entry 2 (some 6) ∷ [])
+            ∷ (entry 0 (some 0) ∷ [])
+            ∷ [],
+      )
+  -- An only child has no neighbour; its parent has.
+  pub merged-above :
+      changes 8 5 (255 ∷ 124 ∷ 28 ∷ 23 ∷ 35 ∷ 254 ∷ 109 ∷ []) (on 0 ∷ on 1 ∷ on 2 ∷ on 3 ∷ on 4 ∷ on 5 ∷ on 6 ∷ off 3 ∷ off 5 ∷ [])
+      ≡ (
+        1,
+        (entry 3 (some 2) ∷ entry 2 (some 4) ∷ [])
+            ∷ (entry 3 none ∷ entry 4 (some 6) ∷ entry 1 (some 1) ∷ [])
+            ∷ (entry 0 (some 0) ∷ [])
+            ∷ [],
+      )
 
 pub small-pages : SmallPages
 unfolding cut split leafList
@@ -91,4 +148,12 @@ small-pages =
       history1 = refl;
       history2 = refl;
       history3 = refl;
+      merged-right = refl;
+      merged-left = refl;
+      left-shallower = refl;
+      left-full = refl;
+      not-merged = refl;
+      a-quarter = refl;
+      merged-twice = refl;
+      merged-above = refl;
     }

@@ -77,7 +77,7 @@ module _ {index keys used : List ℕ} (s : Sound index keys used) where
 
     -- Off: the pages without the entry found.
     pub off-done : (key r : ℕ) → key < 2 ^ w → lookup key (herdOf keys used) ≡ some r
-        → numberedTreeAt 65535 (pagesAt (layoutOf (entriesOf index)) b′) level p ≡ offNumbered w key (numberedTreeOf index)
+        → numberedTreeAt 65535 (pagesAt (layoutOf (entriesOf index)) b′) level p ≡ offNumbered w (entriesOf index) key (numberedTreeOf index)
         → OffDone index keys used key (tableWith (heldOf index - 1)) (set keys r 0) (set used r 0)
     off-done key r narrow found tree =
         let fits : heldOf index - 1 < 65536 = omega (arith, held-high) in
@@ -133,7 +133,7 @@ module _ {index keys : List ℕ} {key r : ℕ} {news : Row} (n : NewsFor index k
 
 -- Off, from the pages that it leaves.
 pub off-taken : {index keys used : List ℕ} {key : ℕ} {leaf : Leaf} {index₁ : List ℕ} → HeldKey index keys used key leaf
-    → Repaged index (offNumbered (widthOf index) key (numberedTreeOf index)) (heldOf index - 1) index₁ → OffDone index keys used key index₁ (set keys (leaf .pointer) 0) (set used (leaf .pointer) 0)
+    → Repaged index (offNumbered (widthOf index) (entriesOf index) key (numberedTreeOf index)) (heldOf index - 1) index₁ → OffDone index keys used key index₁ (set keys (leaf .pointer) 0) (set used (leaf .pointer) 0)
 off-taken {index} {keys} {used} {key} {leaf} {index₁} h p =
     subst (λ (b : List ℕ). OffDone index keys used key b (set keys (leaf .pointer) 0) (set used (leaf .pointer) 0)) (sym (p .written))
     (off-done (h .sound) (p .bytes) (p .level) (p .root) (p .long) (p .front) (p .pages) key (leaf .pointer) (h .narrow) (h .found) (p .tree))

@@ -25,7 +25,7 @@ use Rattle.table_change.specs.News.{NewsFor, FreeRecord}
 use Rattle.index_change.specs.Repaging.{Changeable, OffPagesPre, treeWith, lateRowWith, OnPagesPre, Roomy}
 use Rattle.table_change.specs.FoundKeys.{HeldKey}
 use Rattle.table_change.proofs.Changed.{held-high, tree-table, tree-after}
-use Rattle.table_change.proofs.SoundAfter.{found-record}
+use Rattle.table_change.proofs.SoundAfter.{found-record, off-depths}
 
 -- The test of the width that was read.
 pub wide-is : {w v : ℕ} (key : ℕ) {t u : Bool} → w ≡ v → t ≡ leb (2 ^ w) key → t ≡ u → tooWide v key ≡ u
@@ -71,6 +71,7 @@ module _ {index keys used : List ℕ} {key : ℕ} {leaf : Leaf} (h : HeldKey ind
   strike-pre = record {
     changeable = changeable-sound (h .sound) key (h .narrow);
     beside = rw (h .sound .leaves) (neighbours-law (widthOf index) (herdOf keys used) (herd-narrow (h .sound)) (herd-sorted (h .sound)));
+    later = off-depths (h .sound) key (leaf .pointer) (h .found) (h .narrow);
     some = omega (arith, some-herd key (leaf .pointer) (herdOf keys used) (h .found), herd-held (h .sound));
     first = h .place .first;
     begins = h .place .begins;

@@ -12,8 +12,10 @@ use lib.Seq.{getD-set-same, getD-set-other}
 use borrow.Author.Tests.{eqb-true, eqb-false, eq-eqb}
 use Rattle.leaf_list.specs.Herd.{Herd, lookup, add, remove}
 use Rattle.leaf_list.specs.LeafList.{leafList}
+use Rattle.leaf_list.specs.Depths.{LeafDepths}
 use Rattle.leaf_list.specs.Register.{keyAt, inUse, herdOf}
-use Rattle.leaf_list.proofs.HerdLaws.{length-add, length-remove, lookup-absent}
+use Rattle.leaf_list.proofs.HerdLaws.{length-add, length-remove, lookup-absent, narrow-remove, sorted-remove}
+use Rattle.leaf_list.proofs.Laws.{depths-law}
 use Rattle.leaf_list.proofs.RegisterChange.{herdOf-set, herdOf-clear}
 use Rattle.leaf_list.proofs.RegisterHerd.{herdOf-holds, herdOf-length, holds-lookup, lookup-holds}
 use Rattle.page_tree.specs.Tree.{leavesOf}
@@ -165,18 +167,28 @@ module _ {index keys used : List ℕ} (s : Sound index keys used) where
     pub herd-off : herdOf (set keys r 0) (set used r 0) ≡ remove key (herdOf keys used)
     herd-off = herdOf-clear keys used r key (found-record .0) (found-record .1) (herd-sorted s)
 
+    -- On level 0 the pages have the leaf list of the herd without the key,
+    pub off-leaves : key < 2 ^ widthOf index → leavesOf (offTree (widthOf index) (entriesOf index) key (treeOf index)) ≡ leafList (widthOf index) (remove key (herdOf keys used))
+    off-leaves narrow = off-pages (widthOf index) (entriesOf index) (herdOf keys used) (treeOf index) (herd-narrow s) (herd-sorted s) herd-tree key r narrow found .level0
+
+    -- so that their depths are those of a leaf list.
+    pub off-depths : key < 2 ^ widthOf index → LeafDepths (widthOf index) (leavesOf (offTree (widthOf index) (entriesOf index) key (treeOf index)))
+    off-depths narrow =
+        subst (LeafDepths (widthOf index)) (sym (off-leaves narrow))
+        (depths-law (widthOf index) (remove key (herdOf keys used)) (narrow-remove (widthOf index) key (herdOf keys used) (herd-narrow s)) (sorted-remove key (herdOf keys used) (herd-sorted s)))
+
     -- A done off leaves sound tables.
     pub off-keeps-sound : (index₁ : List ℕ) → key < 2 ^ widthOf index
         → HeaderFrom index index₁ (rootOf index₁) (heldOf index - 1) → length index₁ ≡ length index
         → SoundPages (layoutOf (entriesOf index)) (pagesOf index) index₁ (rootLevel index₁) (rootOf index₁)
-        → numberedTreeOf index₁ ≡ offNumbered (widthOf index) key (numberedTreeOf index)
+        → numberedTreeOf index₁ ≡ offNumbered (widthOf index) (entriesOf index) key (numberedTreeOf index)
         → Sound index₁ (set keys r 0) (set used r 0)
     off-keeps-sound index₁ narrow header long pages tree =
         sound-changed (heldOf index - 1) index₁ r 0 0 header long pages
         (register-changed (widthOf index) keys used r 0 0 (s .register) (s .lengths .register) (in-use-inside s r (found-record .0))
         (record { byte = inl refl; free = λ z. refl; narrow = λ z. absurd (omega (arith, z)) }) (λ z. absurd (omega (arith, z))))
         (ap leavesOf after
-        ∙ off-pages w E herd (treeOf index) (herd-narrow s) (herd-sorted s) herd-tree key r narrow found .level0
+        ∙ off-leaves narrow
         ∙ ap (leafList w) (sym herd-off))
         (omega (arith, herd-held s, length-remove key r herd found) ∙ ap length (sym herd-off))
       where
@@ -189,6 +201,6 @@ module _ {index keys used : List ℕ} (s : Sound index keys used) where
         herd : Herd
         herd = herdOf keys used
 
-        after : treeOf index₁ ≡ offTree w key (treeOf index)
+        after : treeOf index₁ ≡ offTree w E key (treeOf index)
         after =
-            sym (numbered-tree index₁) ∙ ap treeAside tree ∙ off-aside w key (numberedTreeOf index) ∙ ap (offTree w key) (numbered-tree index)
+            sym (numbered-tree index₁) ∙ ap treeAside tree ∙ off-aside w E key (numberedTreeOf index) ∙ ap (offTree w E key) (numbered-tree index)

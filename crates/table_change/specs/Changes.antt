@@ -80,10 +80,10 @@ offRow wide held = cond wide 2 (cond held 0 6)
 abbrev pub offRowOf : List ℕ → List ℕ → List ℕ → ℕ → ℕ
 offRowOf index keys used key = offRow (tooWide (widthOf index) key) (isHeld key (herdOf keys used))
 
--- What a done off leaves of the key's record and the pages; every page that stays keeps its number.
+-- What a done off leaves of the key's record and the pages; every page that stays keeps its number, and of two joined pages the left one stays.
 pub record OffDone (index keys used : List ℕ) (key : ℕ) (index₁ keys₁ used₁ : List ℕ) : Type 0 where
   pub header : HeaderFrom index index₁ (rootOf index₁) (heldOf index - 1)
-  pub pages : numberedTreeOf index₁ ≡ offNumbered (widthOf index) key (numberedTreeOf index)
+  pub pages : numberedTreeOf index₁ ≡ offNumbered (widthOf index) (entriesOf index) key (numberedTreeOf index)
   pub «record» : ℕ
   pub found : lookup key (herdOf keys used) ≡ some «record»
   pub key-set : keys₁ ≡ set keys «record» 0

@@ -1,6 +1,7 @@
 pub mod Lowering
 pub mod RootLeft
 pub mod SoundLinks
+pub mod Finishing
 pub mod TakingOut
 pub mod QuietWays
 pub mod TakingAt

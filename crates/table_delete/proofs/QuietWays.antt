@@ -1,6 +1,6 @@
 -- Where one page of level 0 changes alone, every page above it stays (01, "parent depths follow"). Assumes nothing.
 use mathlib.Core.Path.{_≡_, refl, sym, ap, ap₂, subst, _∙_}
-use mathlib.Core.List.{List, [], _∷_, _++_, append-assoc, map-append}
+use mathlib.Core.List.{List, [], _∷_, _++_, map-append}
 use Prim.Native.Nat.{ℕ, zero, suc, _+_, _≤_, _<_}
 use native.Mathlib.Omega.{arith}
 use lib.ListN.{length, getD, take, drop, length-map}
@@ -11,12 +11,10 @@ use Rattle.page_tree.specs.declared.Unwind.{Unwind}
 use Rattle.page_tree.specs.OffPages.{Left, stepEntry, sweep, nextDepth, strikeIn}
 use Rattle.page_tree.specs.Numbered.{Numbered, numberedDepth, numberedLeaves, keptUnder, stepNumbered, deleteNumbered}
 use Rattle.page_tree.proofs.ListLaws.{all-left}
-use Rattle.index_table.specs.Layout.{Layout, layoutOf, Ref, Within, pageBytes, refsOf, store}
-use Rattle.index_table.specs.Pages.{Pages, pagesAt, nodeAt, numberedAt, same, met, metAll}
+use Rattle.index_table.specs.Layout.{Layout, layoutOf, Ref, Within, store}
+use Rattle.index_table.specs.Pages.{Pages, pagesAt, nodeAt, numberedAt, met, metAll}
 use Rattle.index_table.specs.Soundness.{SizedPage}
-use Rattle.index_table.proofs.PageCounts.{same-self}
 use Rattle.index_table.proofs.Frames.{UnchangedRow}
-use Rattle.index_write.specs.Standing.{Owned}
 use Rattle.table_search.specs.declared.Spot.{Spot}
 use Rattle.table_search.specs.declared.Leaf.{Leaf}
 use Rattle.table_search.specs.Places.{leftFrom, Stopped, Way}
@@ -27,13 +25,15 @@ use Rattle.tree_delete.specs.Keeping.{numbersAt, Linked, Kept}
 use Rattle.tree_delete.specs.Rows.{settled, entryFor}
 use Rattle.tree_delete.specs.Removing.{followingAt, RemovePre}
 use Rattle.tree_delete.proofs.CalmRows.{askedPast, past-calm, kept-some, calm-row}
-use Rattle.tree_delete.proofs.Frames.{kept-at, before-stays, after-stays}
 use Rattle.tree_delete.proofs.RowChanges.{page-some, entry-some}
 use Rattle.tree_delete.proofs.Settling.{settled-kept, settled-numbers}
 use Rattle.tree_delete.proofs.Sweeps.{none-met}
-use Rattle.tree_delete.proofs.SweepTurns.{met-mid}
-use Rattle.tree_delete.proofs.FoundPlaces.{found-parted, found-linked, found-owned, found-down, found-strike}
+use Rattle.tree_delete.proofs.FoundPlaces.{found-parted, found-linked, found-down, found-strike}
+use Rattle.tree_delete.proofs.EntryStays.{row-same, entry-kept, front-stays, rest-stays}
 use Rattle.tree_delete.proofs.Removals.{remove-descend}
+use Rattle.tree_merge.specs.Merges.{coverSize}
+use Rattle.tree_merge.proofs.Besides.{number-size}
+use Rattle.tree_merge.proofs.MergeSteps.{cover-at}
 use Rattle.table_delete.specs.Blanking.{Quiet}
 
 module _ {e P n : ℕ} {b : List ℕ} {x : Ref} {w key position τ : ℕ} (h : RemovePre e P (suc n) b x w key position) (s : Spot) (a : Stopped w key position τ (pagesAt (layoutOf e) b (x .1)) s) where
@@ -61,58 +61,18 @@ module _ {e P n : ℕ} {b : List ℕ} {x : Ref} {w key position τ : ℕ} (h : R
   linked : All (Linked L P n b) (front ++ y ∷ rest)
   linked = found-linked h s a
 
-  owned : Owned L b (metAll n pages (front ++ y ∷ rest))
-  owned = found-owned h s a
-
-  opened : (q : ℕ) → met (suc n) pages x q ≡ same (x .1) q + metAll n pages (front ++ y ∷ rest) q
-  unfolding met
-  opened q = ap (λ (l : List Ref). same (x .1) q + metAll n pages l q) parted
-
-  -- The page is not met below its own entries.
-  apart : met n pages y (x .1) ≡ 0
-  apart = omega (arith, h .back .own (x .1), opened (x .1), same-self (x .1), met-mid (λ z. met n pages z (x .1)) front y rest)
-
   module _ (ν : ℕ) (b′ : List ℕ) (q : Quiet e P n b y (leftFrom w key (s .position)) (s .trail) (followingAt n pages ν rest) b′) where
     abbrev pages′ : Pages
     pages′ = pagesAt L b′
 
-    page-same : pageBytes L b′ (x .1) ≡ pageBytes L b (x .1)
-    page-same = q .kept .same (x .1) apart
-
-    row-same : pages′ (x .1) ≡ row
-    row-same = ap (refsOf L) page-same
-
-    row-kept : Kept L P n b (metAll n pages (front ++ y ∷ rest)) b′ row
-    row-kept =
-        subst (λ (l : List Ref). Kept L P n b (metAll n pages (front ++ y ∷ rest)) b′ l) (append-assoc front (y ∷ []) rest ∙ sym parted)
-        (kept-at L P n b front y rest owned linked b′ (y ∷ []) (q .kept))
-
-    met-now : (p : ℕ) → metAll (suc n) pages′ (x ∷ []) p ≡ same (x .1) p + metAll n pages′ row p
-    unfolding met
-    met-now p = let z : metAll n pages′ (pages′ (x .1)) p ≡ metAll n pages′ row p = ap (λ (l : List Ref). metAll n pages′ l p) row-same in omega (arith, z)
-
-    up-kept : Kept L P (suc n) b (met (suc n) pages x) b′ (x ∷ [])
-    up-kept = record {
-      long = row-kept .long;
-      front = row-kept .front;
-      pages = λ p. omega (arith, met-now p, row-kept .pages p, opened p);
-      same = λ p z. row-kept .same p (omega (arith, opened p, z));
-      cleared = row-kept .cleared;
-      linked = (
-        (
-          record { number = h .back .linked .0 .number; level = rw page-same (h .back .linked .0 .level); some = rw page-same (h .back .linked .0 .some); few = rw page-same (h .back .linked .0 .few) },
-          rw page-same (h .back .linked .1),
-          rw row-same (row-kept .linked),
-        ),
-        tt,
-      );
-    }
+    row-is : pages′ (x .1) ≡ row
+    row-is = row-same h s a b′ (q .kept)
 
     fronts : UnchangedRow L n b b′ front
-    fronts = before-stays L P n b front y rest owned linked b′ (y ∷ []) (q .kept)
+    fronts = front-stays h s a b′ (q .kept)
 
     rests : UnchangedRow L n b b′ rest
-    rests = after-stays L P n b front y rest owned linked b′ (y ∷ []) (q .kept)
+    rests = rest-stays h s a b′ (q .kept)
 
     front-linked : All (Linked L P n b) front
     front-linked = all-left (Linked L P n b) front (y ∷ rest) linked
@@ -141,13 +101,12 @@ module _ {e P n : ℕ} {b : List ℕ} {x : Ref} {w key position τ : ℕ} (h : R
     pub quiet-up : Quiet e P (suc n) b x (leftFrom w key position) τ ν b′
     unfolding numberedAt
     quiet-up = record {
-      kept = up-kept;
+      kept = entry-kept h s a b′ (q .kept);
       asked = asks;
       calm = past-calm τ front (q .asked) front-calm;
       left =
           ap (λ (o : Left (Numbered n)). (keptUnder (x .1) (o .0), o .1)) swept
-          ∙ ap (λ (l : List (Numbered (suc n))). (l, asks)) (kept-some (x .1) (numbersAt n pages′ row) some-numbers ∙ ap (λ (l : List Ref). (x .1, numbersAt n pages′ l) ∷ []) (sym row-same));
-      page = λ k. row-same;
+          ∙ ap (λ (l : List (Numbered (suc n))). (l, asks)) (kept-some (x .1) (numbersAt n pages′ row) some-numbers ∙ ap (λ (l : List Ref). (x .1, numbersAt n pages′ l) ∷ []) (sym row-is));
     }
 
 -- ---- the page of level 0
@@ -219,7 +178,6 @@ module _ {e P : ℕ} {b : List ℕ} {x : Ref} {w key position τ : ℕ} (h : Rem
     asked = d .asked;
     calm = d .calm;
     left = whole-left ∙ ap (λ (l : List (Numbered 1)). (l, d .asked)) numbers-are;
-    page = λ k. absurd (omega arith);
   }
 
 -- ---- the way
@@ -243,3 +201,26 @@ way-quiet zero τ ν leaf h a b′ d =
 way-quiet (suc n) {e} {P} {b} {x} τ ν leaf h a b′ d =
     quiet-up h (a .0) (a .1) ν b′
     (way-quiet n (a .0 .trail) (followingAt (suc n) (pagesAt (layoutOf e) b) ν (drop (suc (a .0 .at)) (pagesAt (layoutOf e) b (x .1)))) leaf (found-down h (a .0) (a .1)) (a .2) b′ d)
+
+-- A page above level 0 has the same entries.
+pub way-row : {n e P : ℕ} {b : List ℕ} {x : Ref} {w key position : ℕ} (τ : ℕ) (leaf : Leaf) → RemovePre e P (suc (suc n)) b x w key position
+    → Way w key (pagesAt (layoutOf e) b) (suc n) (x .1) position τ leaf → (b′ : List ℕ)
+    → ((μ : ℕ) → StruckNear e b (leaf .page .0) (leaf .at) (leaf .trail) (leaf .before) μ b′) → pagesAt (layoutOf e) b′ (x .1) ≡ pagesAt (layoutOf e) b (x .1)
+way-row {n} {e} {P} {b} {x} τ leaf h a b′ d =
+    row-same h (a .0) (a .1) b′
+    (way-quiet n (a .0 .trail) (followingAt (suc n) (pagesAt (layoutOf e) b) 0 (drop (suc (a .0 .at)) (pagesAt (layoutOf e) b (x .1)))) leaf (found-down h (a .0) (a .1)) (a .2) b′ d .kept)
+
+-- The page of level 0 that covers the key is still the one found.
+pub way-cover : (n : ℕ) {e P : ℕ} {b : List ℕ} {x : Ref} {w key position : ℕ} (τ : ℕ) (leaf : Leaf) → RemovePre e P (suc n) b x w key position
+    → Way w key (pagesAt (layoutOf e) b) n (x .1) position τ leaf → (b′ : List ℕ)
+    → ((μ : ℕ) → StruckNear e b (leaf .page .0) (leaf .at) (leaf .trail) (leaf .before) μ b′) → RemovePre e P (suc n) b′ x w key position
+    → coverSize n (leftFrom w key position) (numberedAt 65535 (suc n) (pagesAt (layoutOf e) b′) x) ≡ length (pagesAt (layoutOf e) b′ (leaf .page .0))
+way-cover zero {e} {P} {x = x} τ leaf h a b′ d h′ = number-size e P b′ 0 x ∙ ap (λ (p : ℕ). length (pagesAt (layoutOf e) b′ p)) (sym (a .page-is))
+way-cover (suc n) {e} {P} {b} {x} {w} {key} {position} τ leaf h a b′ d h′ =
+    let s = a .0 in
+    let pages′ = pagesAt (layoutOf e) b′ in
+    let same : pages′ (x .1) ≡ pagesAt (layoutOf e) b (x .1) = way-row τ leaf h a b′ d in
+    let a′ : Stopped w key position τ (pages′ (x .1)) s = subst (λ (l : List Ref). Stopped w key position τ l s) (sym same) (a .1) in
+    cover-at h′ s a′ ∙ ap (λ (l : List Ref). coverSize n (leftFrom w key (s .position)) (numberedAt 65535 (suc n) pages′ (getD l (s .at) (0, 0)))) same
+    ∙ way-cover n (s .trail) leaf (found-down h s (a .1)) (a .2) b′ d
+    (subst (λ (l : List Ref). RemovePre e P (suc n) b′ (getD l (s .at) (0, 0)) w key (s .position)) same (found-down h′ s a′))

@@ -1,18 +1,19 @@
 -- Sound pages are linked, and linked pages that read as a sound tree are sound. Assumes nothing.
-use mathlib.Core.Path.{_≡_, refl, sym, _∙_, subst}
+use mathlib.Core.Path.{sym, subst}
 use mathlib.Core.List.{List, [], _∷_, map}
 use Prim.Native.Nat.{ℕ, zero, suc}
 use Rattle.page_tree.specs.Rows.{All, Closed}
 use Rattle.page_tree.specs.Row.{depthOf}
 use Rattle.page_tree.specs.Tree.{Node, depth, Sound}
 use Rattle.page_tree.proofs.ClosedRows.{closed-last}
-use Rattle.page_tree.proofs.RowMaps.{lastDepth-map, closed-unmap}
+use Rattle.page_tree.proofs.RowMaps.{closed-unmap}
 use Rattle.index_table.specs.Layout.{Layout, layoutOf, Ref}
 use Rattle.index_table.specs.Pages.{pagesAt, nodeAt}
 use Rattle.index_table.specs.Soundness.{SoundBelow}
 use Rattle.index_table.proofs.NumberLaws.{Bytes}
 use Rattle.index_table.proofs.PageRows.{refs-fit}
 use Rattle.tree_delete.specs.Keeping.{Linked}
+use Rattle.tree_delete.proofs.LinkedDepths.{linked-depth, linked-depths}
 
 module _ (e P : ℕ) (b : List ℕ) where
   abbrev L : Layout
@@ -30,16 +31,6 @@ module _ (e P : ℕ) (b : List ℕ) where
   sound-linked bytes zero x h = (h .0, sym (closed-last depthOf (x .0) 0 (pagesAt L b (x .1)) (h .1)), refs-fit L b (x .1) bytes)
   sound-linked bytes (suc n) x h = (h .0, sym (closed-last depthOf (x .0) 0 (pagesAt L b (x .1)) (h .1)), each-linked (suc n) (sound-linked bytes n) (pagesAt L b (x .1)) (h .2))
 
-  each-depth : (n : ℕ) → ((x : Ref) → Linked L P n b x → depth n (node n x) ≡ x .0) → (row : List Ref) → All (Linked L P n b) row → All (λ x. depth n (node n x) ≡ depthOf x) row
-  each-depth n f [] h = tt
-  each-depth n f (x ∷ row) h = (f x (h .0), each-depth n f row (h .1))
-
-  -- What a linked entry stands for has the entry's depth.
-  pub linked-depth : (n : ℕ) (x : Ref) → Linked L P n b x → depth n (node n x) ≡ x .0
-  unfolding nodeAt
-  linked-depth zero x h = refl
-  linked-depth (suc n) x h = lastDepth-map depthOf (depth n) (node n) 0 (pagesAt L b (x .1)) (each-depth n (linked-depth n) (pagesAt L b (x .1)) (h .2)) ∙ sym (h .1)
-
   each-sound : (n : ℕ) → ((x : Ref) → Linked L P n b x → Sound e n (node n x) → SoundBelow L P n b x) → (row : List Ref) → All (Linked L P n b) row → All (Sound e n) (map (node n) row)
       → All (SoundBelow L P n b) row
   each-sound n f [] h s = tt
@@ -51,7 +42,7 @@ module _ (e P : ℕ) (b : List ℕ) where
   linked-sound zero x h s = tt
   linked-sound (suc n) x h s = (
     h .0,
-    closed-unmap depthOf (depth n) (node n) (x .0) (pagesAt L b (x .1)) (each-depth n (linked-depth n) (pagesAt L b (x .1)) (h .2))
-        (subst (λ (c : ℕ). Closed (depth n) c (map (node n) (pagesAt L b (x .1)))) (linked-depth (suc n) x h) (s .0 .0)),
+    closed-unmap depthOf (depth n) (node n) (x .0) (pagesAt L b (x .1)) (linked-depths e P b n (pagesAt L b (x .1)) (h .2))
+        (subst (λ (c : ℕ). Closed (depth n) c (map (node n) (pagesAt L b (x .1)))) (linked-depth e P b (suc n) x h) (s .0 .0)),
     each-sound n (linked-sound n) (pagesAt L b (x .1)) (h .2) (s .1),
   )

@@ -1,15 +1,19 @@
--- Removal where one page of level 0 changes alone: the root and its level stay. Assumes nothing.
-use mathlib.Core.Path.{_≡_, refl, sym, ap, subst}
-use mathlib.Core.Bool.{true}
+-- Removal where one page of level 0 changes alone: the root and its level stay until pages are merged. Assumes nothing.
+use mathlib.Core.Path.{_≡_, refl, sym, ap, subst, _∙_}
+use mathlib.Core.Bool.{Bool, true, false, cond}
+use mathlib.Core.Logic.{inl, inr}
 use mathlib.Core.List.{List}
-use Prim.Native.Nat.{ℕ, zero, suc, _+_}
+use Prim.Native.Nat.{ℕ, zero, suc, _+_, _*_, _≤_, _<_}
 use native.Mathlib.Omega.{arith}
 use native.Mathlib.Numerals.{add-one}
+use lib.Dec.{ltb}
 use lib.ListN.{length}
+use Rattle.leaf_list.specs.Keys.{bits}
+use Rattle.leaf_list.specs.Search.{positions}
 use Rattle.page_tree.specs.OffPages.{Left}
 use Rattle.page_tree.specs.Numbered.{Numbered}
-use Rattle.index_table.specs.Layout.{layoutOf, pageBytes}
-use Rattle.index_table.specs.Pages.{pagesAt, rootRef}
+use Rattle.index_table.specs.Layout.{layoutOf, Within, pageBytes, countOf}
+use Rattle.index_table.specs.Pages.{pagesAt, numberedAt, rootRef}
 use Rattle.index_table.specs.declared.layout.PageNo.{PageNo}
 use Rattle.index_table.specs.declared.layout.Root.{Root}
 use Rattle.index_table.proofs.NumberLaws.{Bytes}
@@ -17,15 +21,18 @@ use Rattle.index_table.proofs.PageBytes.{within-table}
 use Rattle.index_table.proofs.PageRows.{length-refs, refs-fit}
 use Rattle.page_change.proofs.WholePages.{cleared-whole}
 use Rattle.table_search.specs.declared.Leaf.{Leaf}
-use Rattle.table_search.specs.Places.{leftFrom, NextPosition}
+use Rattle.table_search.specs.Places.{leftFrom, NextPosition, Way}
 use Rattle.page_delete.specs.OnePage.{NearPre, StruckNear}
 use Rattle.entry_delete.specs.declared.Remnant.{Remnant}
 use Rattle.tree_delete.specs.Removing.{RemovePre, RemovePost}
-use Rattle.table_delete.specs.Taking.{LowerPre, LowerPost, TakePre, TakeAtPre, TakePost}
+use Rattle.tree_merge.specs.Merges.{coverSize, Covered}
+use Rattle.tree_merge.proofs.MergeSteps.{merge-low}
+use Rattle.table_delete.specs.Taking.{LowerPre, LowerPost, FinishPre, FinishPost, TakePre, TakeAtPre, TakePost}
 use Rattle.table_delete.specs.Blanking.{Quiet, BlankPre}
+use Rattle.table_delete.proofs.QuietWays.{LeafPage, way-page, way-quiet, way-row, way-cover}
+use Rattle.table_delete.proofs.Finishing.{finish-remove, finish-merge, finish-lower, finish-post}
 use Rattle.table_delete.proofs.Lowering.{lower-leaf, lower-stop}
-use Rattle.table_delete.proofs.QuietWays.{LeafPage, way-page, way-quiet}
-use Rattle.table_delete.proofs.TakingOut.{take-remove, take-lower, take-post}
+use Rattle.table_delete.proofs.TakingOut.{take-remove, take-finish, take-post}
 
 module _ {b : List ℕ} {e P level : ℕ} (root : PageNo) {w key : ℕ} {leaf : Leaf} (pre : TakeAtPre b e P level (root .0) w key leaf) (bytes : Bytes b) where
   remove-pre : RemovePre e P (suc level) b (rootRef (root .0)) w key (pre .first)
@@ -69,24 +76,61 @@ module _ {b : List ℕ} {e P level : ℕ} (root : PageNo) {w key first : ℕ} (p
     state = sym (ap (λ (o : Left (Numbered (suc level))). o .1) (quiet .left));
   })
 
-  lower-pre : LowerPre e P level b′ (root .0)
-  lower-pre = take-lower pre begins refl removed (root .0) refl
+  -- Pages can be merged,
+  pub quiet-finish : (lowest : ℕ) → Covered e level b′ (rootRef (root .0)) (positions 0 (bits w key)) lowest → FinishPre e P level b′ (root .0) w key lowest
+  quiet-finish lowest c = take-finish pre begins refl removed (root .0) refl lowest c
 
-  -- The root rule does nothing.
-  lowered : LowerPost e P level b′ (root .0) b′ (record { page = root; level = level })
-  lowered = go level refl lower-pre
-    where
-      go : (n : ℕ) → n ≡ level → LowerPre e P n b′ (root .0) → LowerPost e P n b′ (root .0) b′ (record { page = root; level = n })
-      go zero z h = lower-leaf zero root refl h
-      go (suc n) z h =
-          lower-stop (suc n) root (λ y. omega (arith, y)) h refl
-          (λ y. let k = pre .tree .pages .root-rule (omega (arith, z)) in
-          let same : length (pagesAt (layoutOf e) b′ (root .0)) ≡ length (pagesAt (layoutOf e) b (root .0)) = ap length (quiet .page (omega (arith, z))) in
-          omega (arith, y, k, same, length-refs (layoutOf e) (pageBytes (layoutOf e) b′ (root .0))))
+  -- and the tree is without the entry found.
+  pub quiet-taken : (b₂ : List ℕ) (r : Root) → FinishPost e P level b′ (root .0) w key b₂ r → TakePost b e P level (root .0) w key b₂ r
+  quiet-taken b₂ r g = take-post pre begins refl removed (root .0) refl b₂ r g
 
-  -- The tree without the entry found.
-  pub quiet-taken : TakePost b e P level (root .0) w key b′ (record { page = root; level = level })
-  quiet-taken = take-post pre begins refl removed (root .0) refl b′ (record { page = root; level = level }) lowered
+-- ---- the page of level 0 changed alone, and is the one that covers the key
+
+module _ {b : List ℕ} {e P level : ℕ} (root : PageNo) {w key : ℕ} {leaf : Leaf} (pre : TakeAtPre b e P level (root .0) w key leaf) (bytes : Bytes b) {b′ : List ℕ}
+    (d : (ν : ℕ) → StruckNear e b (leaf .page .0) (leaf .at) (leaf .trail) (leaf .before) ν b′) where
+  quiet : Quiet e P (suc level) b (rootRef (root .0)) (leftFrom w key (pre .first)) 0 0 b′
+  quiet = near-quiet root pre bytes b′ d
+
+  -- Its count can be read.
+  pub near-within : Within (layoutOf e) b′ (leaf .page .0)
+  near-within = within-table (layoutOf e) P (leaf .page .0) b′ (omega (arith, pre .take .tree .table, quiet .kept .long)) (leaf-page root pre bytes .sized .number)
+
+  module _ {k : ℕ} (k-is : k ≡ countOf (pageBytes (layoutOf e) b′ (leaf .page .0))) {lowest : ℕ} (lowest-is : lowest ≡ cond (ltb (4 * k) e) 1 2) where
+    cover-is : coverSize level (positions 0 (bits w key)) (numberedAt 65535 (suc level) (pagesAt (layoutOf e) b′) (rootRef (root .0))) ≡ k
+    cover-is =
+        ap (λ (bs : List ℕ). coverSize level bs (numberedAt 65535 (suc level) (pagesAt (layoutOf e) b′) (rootRef (root .0)))) (pre .begins .left)
+        ∙ way-cover level 0 leaf (remove-pre root pre bytes) (pre .way) b′ d (finish-remove (quiet-finish root (pre .take) (pre .begins) b′ quiet 1 (inl refl)) (pre .begins))
+        ∙ length-refs (layoutOf e) (pageBytes (layoutOf e) b′ (leaf .page .0)) ∙ sym k-is
+
+    near-covered : Covered e level b′ (rootRef (root .0)) (positions 0 (bits w key)) lowest
+    near-covered = go (ltb (4 * k) e) refl lowest-is
+      where
+        go : (t : Bool) → ltb (4 * k) e ≡ t → lowest ≡ cond t 1 2 → Covered e level b′ (rootRef (root .0)) (positions 0 (bits w key)) lowest
+        go true z l = inl l
+        go false z l = inr (l, ap (λ (m : ℕ). ltb (4 * m) e) cover-is ∙ z)
+
+    -- So pages can be merged from its level or the next up.
+    pub near-finish : FinishPre e P level b′ (root .0) w key lowest
+    near-finish = quiet-finish root (pre .take) (pre .begins) b′ quiet lowest near-covered
+
+    -- Where no page is to be looked at, the root rule does nothing either.
+    lowered : LowerPre e P level b′ (root .0) → LowerPost e P level b′ (root .0) b′ (record { page = root; level = level })
+    lowered = go level (remove-pre root pre bytes) (pre .way) (pre .take .tree .pages .root-rule)
+      where
+        go : (n : ℕ) → RemovePre e P (suc n) b (rootRef (root .0)) w key (pre .first) → Way w key (pagesAt (layoutOf e) b) n (root .0) (pre .first) 0 leaf
+            → (1 ≤ n → 2 ≤ length (pagesAt (layoutOf e) b (root .0))) → LowerPre e P n b′ (root .0) → LowerPost e P n b′ (root .0) b′ (record { page = root; level = n })
+        go zero h a rule l = lower-leaf zero root refl l
+        go (suc n) h a rule l =
+            lower-stop (suc n) root (λ y. omega (arith, y)) l refl
+            (λ y. let k = rule (omega arith) in
+            let same : length (pagesAt (layoutOf e) b′ (root .0)) ≡ length (pagesAt (layoutOf e) b (root .0)) = ap length (way-row 0 leaf h a b′ d) in
+            omega (arith, y, k, same, length-refs (layoutOf e) (pageBytes (layoutOf e) b′ (root .0))))
+
+    pub near-calm : level < lowest → TakePost b e P level (root .0) w key b′ (record { page = root; level = level })
+    near-calm low =
+        let m = merge-low level low (finish-merge near-finish (pre .begins)) in
+        quiet-taken root (pre .take) (pre .begins) b′ quiet b′ (record { page = root; level = level })
+        (finish-post near-finish (pre .begins) m (lowered (finish-lower near-finish (pre .begins) m)))
 
 -- No byte was changed: the tree is as it was.
 pub far-pre : {b b₁ : List ℕ} {e P level root w key : ℕ} → b₁ ≡ b → TakePre b e P level root w key → TakePre b₁ e P level root w key

@@ -2,7 +2,7 @@
 use mathlib.Core.Path.{_≡_}
 use mathlib.Core.Bool.{Bool, true, false}
 use mathlib.Core.List.{List, [], _∷_}
-use Prim.Native.Nat.{ℕ, _≤_, _<_}
+use Prim.Native.Nat.{ℕ, _<_}
 use Rattle.page_tree.specs.declared.Unwind.{Unwind}
 use Rattle.page_tree.specs.Numbered.{deleteNumbered}
 use Rattle.index_table.specs.Layout.{layoutOf, Ref, pageBytes}
@@ -13,13 +13,12 @@ use Rattle.tree_delete.specs.Keeping.{Kept}
 use Rattle.tree_delete.specs.Removing.{RemovePre}
 use Rattle.entry_delete.specs.Entries.{Calm}
 
--- The entry x of rank n stays where ν follows it, and what is asked changes no entry of the depth τ before it. Above level 0 its page stays too.
+-- The entry x of rank n stays where ν follows it, and what is asked changes no entry of the depth τ before it.
 pub record Quiet (e P n : ℕ) (b : List ℕ) (x : Ref) (bs : List ℕ) (τ ν : ℕ) (b′ : List ℕ) : Type 0 where
   pub kept : Kept (layoutOf e) P n b (met n (pagesAt (layoutOf e) b) x) b′ (x ∷ [])
   pub asked : Unwind
   pub calm : Calm τ asked
   pub left : deleteNumbered n ν bs τ (numberedAt 65535 n (pagesAt (layoutOf e) b) x) ≡ (numberedAt 65535 n (pagesAt (layoutOf e) b′) x ∷ [], asked)
-  pub page : 2 ≤ n → pagesAt (layoutOf e) b′ (x .1) ≡ pagesAt (layoutOf e) b (x .1)
 
 -- An entry to remove from, in a table whose unused entries are zero.
 pub record BlankPre (e P n : ℕ) (b : List ℕ) (x : Ref) (w key position : ℕ) : Type 0 where

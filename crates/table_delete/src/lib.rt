@@ -1,5 +1,5 @@
-// Deletion in the pages of a sound tree: within a page where that is enough, else across pages; and the root rule.
-ghost use Rattle.table_delete.specs.Taking.{LowerPre, LowerPost, TakePre, TakeAtPre, TakePost};
+// Deletion in the pages of a sound tree: within a page where that is enough, else across pages; then pages are merged, and the root rule comes last.
+ghost use Rattle.table_delete.specs.Taking.{LowerPre, LowerPost, FinishPre, FinishPost, TakePre, TakeAtPre, TakePost};
 
 pub mod blank;
 
@@ -15,6 +15,8 @@ use table_search::next_position;
 use tree_delete::removal::remove;
 use tree_delete::rows::page_of;
 use tree_delete::rows::pointer_to;
+use tree_merge::lowest_level;
+use tree_merge::merge;
 
 // The root rule: a root above level 0 with one entry is freed, and its child is the root.
 fn lower(index: &mut [u8], e: u8, pages: u16, level: u8, page: PageNo) -> Root
@@ -38,6 +40,25 @@ fn lower(index: &mut [u8], e: u8, pages: u16, level: u8, page: PageNo) -> Root
     lower(index, e, pages, level - 1, below)
 }
 
+// What ends an off: pages are merged along the way of the key, from a lowest level up, and then the root rule.
+fn finish(
+    index: &mut [u8],
+    e: u8,
+    pages: u16,
+    level: u8,
+    page: PageNo,
+    w: u64,
+    key: u64,
+    lowest: u8,
+) -> Root
+    requires { ⌜ FinishPre e pages level (now index) (page .0) w key lowest ⌝ }
+    ensures { λ r. ⌜ FinishPost e pages level (now (index .entry)) (page .0) w key (now (index .exit)) r ⌝ }
+{
+    let position = next_position(w, key, 0);
+    merge(index, e, pages, level, 0, page, w, key, position, lowest);
+    lower(index, e, pages, level, page)
+}
+
 // The entry that figure 6 finds for a key is taken out of the tree below a root: the root that is left.
 pub fn take_out(
     index: &mut [u8],
@@ -55,7 +76,7 @@ pub fn take_out(
     let p = pointer_to(root);
     let left = remove(index, e, pages, level + 1, 0, p, w, key, position, 0, 0);
     let page = page_of(left.pointer);
-    lower(index, e, pages, level, page)
+    finish(index, e, pages, level, page, w, key, 1)
 }
 
 // The same where the way to the entry is known: within its page where that page alone changes.
@@ -73,17 +94,18 @@ pub fn take_out_at(
     ensures { λ r. ⌜ TakePost (now (index .entry)) e pages level (root .0) w key (now (index .exit)) r ⌝ }
 {
     if strike_near(index, e, leaf.page, leaf.at, leaf.trail, leaf.before) {
-        return Root {
-            page: root,
-            level: level,
-        };
+        let lowest = lowest_level(e, count(index, e, leaf.page));
+        if level < lowest {
+            return Root {
+                page: root,
+                level: level,
+            };
+        }
+        return finish(index, e, pages, level, root, w, key, lowest);
     }
     let position = next_position(w, key, 0);
     if blank(index, e, pages, level, 0, root, w, key, position, 0, 0) {
-        return Root {
-            page: root,
-            level: level,
-        };
+        return finish(index, e, pages, level, root, w, key, 1);
     }
     take_out(index, e, pages, level, root, w, key)
 }

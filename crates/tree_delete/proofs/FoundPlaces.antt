@@ -16,7 +16,7 @@ use Rattle.page_tree.specs.OffPages.{Left, sweep, nextDepth, strikeIn}
 use Rattle.page_tree.specs.Numbered.{Numbered, numberedDepth, numberedLeaves, stepNumbered, deleteNumbered}
 use Rattle.page_tree.proofs.ListLaws.{all-left}
 use Rattle.page_tree.proofs.RowMaps.{lastDepth-map, positionsAfter-map, passes-map}
-use Rattle.page_tree.proofs.WalkPlaces.{positionsAfter, Stops, strikeIn-at}
+use Rattle.page_tree.proofs.WalkPlaces.{positionsAfter, Passes, Stops, strikeIn-at}
 use Rattle.index_table.specs.Layout.{Layout, layoutOf, Ref}
 use Rattle.index_table.specs.Pages.{Pages, pagesAt, nodeAt, numberedAt, metAll}
 use Rattle.index_table.specs.Soundness.{SoundBelow}
@@ -115,8 +115,9 @@ module _ {e P n : ℕ} {b : List ℕ} {x : Ref} {w key position τ : ℕ} (h : R
   abbrev left : List ℕ
   left = leftFrom w key (s .position)
 
-  left-is : positionsAfter (numberedDepth n) (leftFrom w key position) (numbersAt n pages front) ≡ left
-  left-is = positionsAfter-map depthOf (numberedDepth n) number (leftFrom w key position) front front-depths ∙ a .left
+  -- The positions left there,
+  pub found-left : positionsAfter (numberedDepth n) (leftFrom w key position) (numbersAt n pages front) ≡ left
+  found-left = positionsAfter-map depthOf (numberedDepth n) number (leftFrom w key position) front front-depths ∙ a .left
 
   trail-is : lastDepth (numberedDepth n) τ (numbersAt n pages front) ≡ s .trail
   trail-is = lastDepth-map depthOf (numberedDepth n) number τ front front-depths ∙ a .trail
@@ -125,11 +126,17 @@ module _ {e P n : ℕ} {b : List ℕ} {x : Ref} {w key position τ : ℕ} (h : R
   leaves-are [] = refl
   leaves-are (z ∷ zs) = ap₂ (λ (s t : List Entry). s ++ t) (ap (leaves n) (numbered-aside 65535 pages n z)) (leaves-are zs)
 
-  stops : Stops (numberedDepth n) (positionsAfter (numberedDepth n) (leftFrom w key position) (numbersAt n pages front)) (number y)
-  stops = rw left-is (omega (arith, number-depth y (found-down .sound), found-before))
+  -- what is passed,
+  pub found-passes : Passes (numberedDepth n) (leftFrom w key position) (numbersAt n pages front)
+  found-passes = passes-map depthOf (numberedDepth n) number (leftFrom w key position) front front-depths (a .passes)
 
-  numbers-are : numbersAt n pages row ≡ numbersAt n pages front ++ (number y ∷ numbersAt n pages rest)
-  numbers-are = ap (numbersAt n pages) found-parted ∙ map-append number front (y ∷ rest)
+  -- where the walk stops,
+  pub found-stops : Stops (numberedDepth n) (positionsAfter (numberedDepth n) (leftFrom w key position) (numbersAt n pages front)) (number y)
+  found-stops = rw found-left (omega (arith, number-depth y (found-down .sound), found-before))
+
+  -- and what the row stands for.
+  pub found-numbers : numbersAt n pages row ≡ numbersAt n pages front ++ (number y ∷ numbersAt n pages rest)
+  found-numbers = ap (numbersAt n pages) found-parted ∙ map-append number front (y ∷ rest)
 
   abbrev answer : Left (Numbered n) → Left (Numbered n)
   answer o = sweep (stepNumbered n) (o .1) (numbersAt n pages front) (o .0 ++ numbersAt n pages rest)
@@ -140,9 +147,9 @@ module _ {e P n : ℕ} {b : List ℕ} {x : Ref} {w key position τ : ℕ} (h : R
       ≡ answer (deleteNumbered n next left (s .trail) (number y))
   found-strike ν next f =
       let next-is : nextDepth ν (flats (numberedLeaves n) (numbersAt n pages rest)) ≡ next = ap (nextDepth ν) (leaves-are rest) ∙ sym f in
-      ap (strikeIn (numberedDepth n) (numberedLeaves n) (stepNumbered n) (deleteNumbered n) ν (leftFrom w key position) τ) numbers-are
+      ap (strikeIn (numberedDepth n) (numberedLeaves n) (stepNumbered n) (deleteNumbered n) ν (leftFrom w key position) τ) found-numbers
       ∙ strikeIn-at (numberedDepth n) (numberedLeaves n) (deleteNumbered n) ν (leftFrom w key position) τ (numbersAt n pages front) (number y) (numbersAt n pages rest) (stepNumbered n)
-      (passes-map depthOf (numberedDepth n) number (leftFrom w key position) front front-depths (a .passes)) stops
+      found-passes found-stops
       ∙ ap (λ (v : ℕ). answer (deleteNumbered n v (positionsAfter (numberedDepth n) (leftFrom w key position) (numbersAt n pages front)) (lastDepth (numberedDepth n) τ (numbersAt n pages front)) (number y))) next-is
-      ∙ ap (λ (bs : List ℕ). answer (deleteNumbered n next bs (lastDepth (numberedDepth n) τ (numbersAt n pages front)) (number y))) left-is
+      ∙ ap (λ (bs : List ℕ). answer (deleteNumbered n next bs (lastDepth (numberedDepth n) τ (numbersAt n pages front)) (number y))) found-left
       ∙ ap (λ (t : ℕ). answer (deleteNumbered n next left t (number y))) trail-is

@@ -1,7 +1,9 @@
 pub mod CalmRows
 pub mod Following
 pub mod FoundPlaces
+pub mod EntryStays
 pub mod Frames
+pub mod LinkedDepths
 pub mod RemovalSteps
 pub mod Removals
 pub mod RowChanges

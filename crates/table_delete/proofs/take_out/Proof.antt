@@ -1,5 +1,7 @@
 -- From the root's entry, with the key's first position and no depth before or after. Assumes nothing.
-use Rattle.table_delete.proofs.TakingOut.{take-level, take-remove, take-fits, take-lower, take-post}
+use Rattle.table_delete.proofs.TakingOut.{take-level, take-remove, take-fits, take-finish, take-post}
+use mathlib.Core.Path.{refl}
+use mathlib.Core.Logic.{inl}
 use native.Mathlib.Omega.{arith}
 use borrow.Author.Needs.{needs}
 use Rattle.table_delete.proofs.take_out.Statement.{statement}
@@ -20,14 +22,14 @@ remove-requires c κs = take-remove (c .before .before .before .before .pre) (λ
 page-of-requires : tie.Need-page-of-requires
 page-of-requires c κs = take-fits (c .before .before .before .before .before .before .before .pre) (c .before .before .before .before .before .next-position .ensures) (c .before .before .before .before .pointer-to .ensures) (c .before .before .remove .ensures)
 
-lower-requires : tie.Need-lower-requires
-lower-requires c κs = take-lower (c .before .before .before .before .before .before .before .before .before .pre) (c .before .before .before .before .before .before .before .next-position .ensures) (c .before .before .before .before .before .before .pointer-to .ensures) (c .before .before .before .before .remove .ensures) _ (c .before .page-of .ensures)
+finish-requires : tie.Need-finish-requires
+finish-requires c κs = take-finish (c .before .before .before .before .before .before .before .before .before .pre) (c .before .before .before .before .before .before .before .next-position .ensures) (c .before .before .before .before .before .before .pointer-to .ensures) (c .before .before .before .before .remove .ensures) _ (c .before .page-of .ensures) _ (inl refl)
 
 same-length : tie.Need-same-length
 same-length c = search needs
 
 returns : tie.Need-returns
-returns c = take-post (c .before .before .before .before .before .before .before .before .before .before .before .before .pre) (c .before .before .before .before .before .before .before .before .before .before .next-position .ensures) (c .before .before .before .before .before .before .before .before .before .pointer-to .ensures) (c .before .before .before .before .before .before .before .remove .ensures) _ (c .before .before .before .before .page-of .ensures) _ _ (c .before .before .lower .ensures)
+returns c = take-post (c .before .before .before .before .before .before .before .before .before .before .before .before .pre) (c .before .before .before .before .before .before .before .before .before .before .next-position .ensures) (c .before .before .before .before .before .before .before .before .before .pointer-to .ensures) (c .before .before .before .before .before .before .before .remove .ensures) _ (c .before .before .before .before .page-of .ensures) _ _ (c .before .before .finish .ensures)
 
 pub take-out-spec : {M : Type 1} → statement M
 take-out-spec =
@@ -38,6 +40,6 @@ take-out-spec =
     add-remove
     remove-requires
     page-of-requires
-    lower-requires
+    finish-requires
     same-length
     returns)

@@ -1,0 +1,7 @@
+pub mod Middles
+pub mod Joining
+pub mod Gathering
+pub mod Joins
+pub mod Besides
+pub mod Sides
+pub mod MergeSteps
