@@ -1,6 +1,6 @@
 -- The pages of sound tables changed, and the header's root and records held with them. Assumes nothing.
 use mathlib.Core.Path.{_≡_}
-use mathlib.Core.Bool.{Bool, cond}
+use mathlib.Core.Bool.{Bool, false, cond}
 use mathlib.Core.List.{List, []}
 use Prim.Native.Nat.{ℕ, suc, _+_, _^_, _≤_, _<_}
 use lib.Dec.{leb, ltb}
@@ -58,7 +58,7 @@ pub record OffPagesPre (index : List ℕ) (key : ℕ) (leaf : Leaf) : Type 0 whe
   -- The way from the root to the entry found, begun at the key's first position.
   pub first : ℕ
   pub begins : NextPosition (widthOf index) key 0 first
-  pub way : Way (widthOf index) key (pagesAt (layoutOf (entriesOf index)) index) (rootLevel index) (rootOf index) first 0 leaf
+  pub way : Way (widthOf index) key (entriesOf index) (pagesAt (layoutOf (entriesOf index)) index) (rootLevel index) (rootOf index) first 0 false leaf
 
 -- ---- on
 

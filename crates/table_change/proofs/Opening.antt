@@ -1,6 +1,6 @@
 -- A new key whose entries fit into the page found: that page alone is changed. Assumes nothing.
 use mathlib.Core.Path.{_≡_, sym, ap, subst, _∙_}
-use mathlib.Core.Bool.{Bool, true}
+use mathlib.Core.Bool.{Bool, true, false}
 use mathlib.Core.List.{List}
 use Prim.Native.Nat.{ℕ, suc, _+_, _≤_, _<_}
 use native.Mathlib.Omega.{arith}
@@ -40,7 +40,7 @@ use Rattle.table_change.proofs.Entering.{late-row-is}
 -- The page found is a page of level 0.
 module _ {index keys used : List ℕ} {key r : ℕ} (h : FreeRecord index keys used key r) {leaf : Leaf} (found : FoundLeaf index keys used key leaf) where
   found-page : SizedPage (layoutOf (entriesOf index)) (pagesOf index) 0 index (leaf .page .0) × (leaf .at < length (pagesAt (layoutOf (entriesOf index)) index (leaf .page .0)))
-  found-page = way-end leaf (rootLevel index) 0 (root-descend (tree-table (h .sound)) (h .narrow) (found .begins)) (found .way)
+  found-page = way-end leaf (rootLevel index) 0 false (root-descend (tree-table (h .sound)) (h .narrow) (found .begins)) (found .way)
 
   -- It is within the table.
   pub found-within : Within (layoutOf (entriesOf index)) index (leaf .page .0)

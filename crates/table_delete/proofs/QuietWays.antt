@@ -1,9 +1,12 @@
 -- Where one page of level 0 changes alone, every page above it stays (01, "parent depths follow"). Assumes nothing.
 use mathlib.Core.Path.{_≡_, refl, sym, ap, ap₂, subst, _∙_}
+use mathlib.Core.Bool.{Bool, true, false, cond, _&&_}
 use mathlib.Core.List.{List, [], _∷_, _++_, map-append}
-use Prim.Native.Nat.{ℕ, zero, suc, _+_, _≤_, _<_}
+use Prim.Native.Nat.{ℕ, zero, suc, _+_, _*_, _≤_, _<_}
 use native.Mathlib.Omega.{arith}
+use lib.Dec.{ltb}
 use lib.ListN.{length, getD, take, drop, length-map}
+use borrow.Author.Tests.{ltb-true}
 use Rattle.leaf_list.specs.Entries.{Entry}
 use Rattle.page_tree.specs.Rows.{All, lastDepth}
 use Rattle.page_tree.specs.Row.{depthOf}
@@ -17,7 +20,7 @@ use Rattle.index_table.specs.Soundness.{SizedPage}
 use Rattle.index_table.proofs.Frames.{UnchangedRow}
 use Rattle.table_search.specs.declared.Spot.{Spot}
 use Rattle.table_search.specs.declared.Leaf.{Leaf}
-use Rattle.table_search.specs.Places.{leftFrom, Stopped, Way}
+use Rattle.table_search.specs.Places.{leftFrom, Stopped, sparseAt, Way}
 use Rattle.table_search.proofs.Descents.{descend-within}
 use Rattle.entry_delete.specs.Entries.{Calm}
 use Rattle.page_delete.specs.OnePage.{leafRow, NearDone, StruckNear}
@@ -31,10 +34,11 @@ use Rattle.tree_delete.proofs.Sweeps.{none-met}
 use Rattle.tree_delete.proofs.FoundPlaces.{found-parted, found-linked, found-down, found-strike}
 use Rattle.tree_delete.proofs.EntryStays.{row-same, entry-kept, front-stays, rest-stays}
 use Rattle.tree_delete.proofs.Removals.{remove-descend}
-use Rattle.tree_merge.specs.Merges.{coverSize}
+use Rattle.tree_merge.specs.Merges.{missed, noneMissed}
 use Rattle.tree_merge.proofs.Besides.{number-size}
-use Rattle.tree_merge.proofs.MergeSteps.{cover-at}
+use Rattle.tree_merge.proofs.MergeSteps.{missed-at}
 use Rattle.table_delete.specs.Blanking.{Quiet}
+use Rattle.table_delete.specs.Taking.{lowestLevel}
 
 module _ {e P n : ℕ} {b : List ℕ} {x : Ref} {w key position τ : ℕ} (h : RemovePre e P (suc n) b x w key position) (s : Spot) (a : Stopped w key position τ (pagesAt (layoutOf e) b (x .1)) s) where
   abbrev L : Layout
@@ -187,40 +191,82 @@ pub record LeafPage (e P : ℕ) (b : List ℕ) (leaf : Leaf) : Type 0 where
   pub sized : SizedPage (layoutOf e) P 0 b (leaf .page .0)
   pub inside : leaf .at < length (pagesAt (layoutOf e) b (leaf .page .0))
 
-pub way-page : (n : ℕ) {e P : ℕ} {b : List ℕ} {x : Ref} {w key position : ℕ} (τ : ℕ) (leaf : Leaf) → RemovePre e P (suc n) b x w key position
-    → Way w key (pagesAt (layoutOf e) b) n (x .1) position τ leaf → LeafPage e P b leaf
-way-page zero τ leaf h a = record { sized = rw (a .page-is) (h .sound .0); inside = rw (a .page-is) (a .place .inside) }
-way-page (suc n) τ leaf h a = way-page n (a .0 .trail) leaf (found-down h (a .0) (a .1)) (a .2)
+pub way-page : (n : ℕ) {e P : ℕ} {b : List ℕ} {x : Ref} {w key position : ℕ} (τ : ℕ) (few : Bool) (leaf : Leaf) → RemovePre e P (suc n) b x w key position
+    → Way w key e (pagesAt (layoutOf e) b) n (x .1) position τ few leaf → LeafPage e P b leaf
+way-page zero τ few leaf h a = record { sized = rw (a .page-is) (h .sound .0); inside = rw (a .page-is) (a .place .inside) }
+way-page (suc n) {e} {b = b} {x = x} τ few leaf h a = way-page n (a .0 .trail) (sparseAt e (pagesAt (layoutOf e) b) (x .1)) leaf (found-down h (a .0) (a .1)) (a .2)
 
 -- Every entry on the way stays.
-pub way-quiet : (n : ℕ) {e P : ℕ} {b : List ℕ} {x : Ref} {w key position : ℕ} (τ ν : ℕ) (leaf : Leaf) → RemovePre e P (suc n) b x w key position
-    → Way w key (pagesAt (layoutOf e) b) n (x .1) position τ leaf → (b′ : List ℕ)
+pub way-quiet : (n : ℕ) {e P : ℕ} {b : List ℕ} {x : Ref} {w key position : ℕ} (τ ν : ℕ) (few : Bool) (leaf : Leaf) → RemovePre e P (suc n) b x w key position
+    → Way w key e (pagesAt (layoutOf e) b) n (x .1) position τ few leaf → (b′ : List ℕ)
     → ((μ : ℕ) → StruckNear e b (leaf .page .0) (leaf .at) (leaf .trail) (leaf .before) μ b′) → Quiet e P (suc n) b x (leftFrom w key position) τ ν b′
-way-quiet zero τ ν leaf h a b′ d =
+way-quiet zero τ ν few leaf h a b′ d =
     quiet-leaf h (record { at = leaf .at; position = a .next; trail = leaf .trail }) (a .place) ν b′ (rw (a .page-is, a .before-is) at (d ν))
-way-quiet (suc n) {e} {P} {b} {x} τ ν leaf h a b′ d =
+way-quiet (suc n) {e} {P} {b} {x} τ ν few leaf h a b′ d =
     quiet-up h (a .0) (a .1) ν b′
-    (way-quiet n (a .0 .trail) (followingAt (suc n) (pagesAt (layoutOf e) b) ν (drop (suc (a .0 .at)) (pagesAt (layoutOf e) b (x .1)))) leaf (found-down h (a .0) (a .1)) (a .2) b′ d)
+    (way-quiet n (a .0 .trail) (followingAt (suc n) (pagesAt (layoutOf e) b) ν (drop (suc (a .0 .at)) (pagesAt (layoutOf e) b (x .1)))) (sparseAt e (pagesAt (layoutOf e) b) (x .1)) leaf (found-down h (a .0) (a .1)) (a .2) b′ d)
 
 -- A page above level 0 has the same entries.
-pub way-row : {n e P : ℕ} {b : List ℕ} {x : Ref} {w key position : ℕ} (τ : ℕ) (leaf : Leaf) → RemovePre e P (suc (suc n)) b x w key position
-    → Way w key (pagesAt (layoutOf e) b) (suc n) (x .1) position τ leaf → (b′ : List ℕ)
+pub way-row : {n e P : ℕ} {b : List ℕ} {x : Ref} {w key position : ℕ} (τ : ℕ) (few : Bool) (leaf : Leaf) → RemovePre e P (suc (suc n)) b x w key position
+    → Way w key e (pagesAt (layoutOf e) b) (suc n) (x .1) position τ few leaf → (b′ : List ℕ)
     → ((μ : ℕ) → StruckNear e b (leaf .page .0) (leaf .at) (leaf .trail) (leaf .before) μ b′) → pagesAt (layoutOf e) b′ (x .1) ≡ pagesAt (layoutOf e) b (x .1)
-way-row {n} {e} {P} {b} {x} τ leaf h a b′ d =
+way-row {n} {e} {P} {b} {x} τ few leaf h a b′ d =
     row-same h (a .0) (a .1) b′
-    (way-quiet n (a .0 .trail) (followingAt (suc n) (pagesAt (layoutOf e) b) 0 (drop (suc (a .0 .at)) (pagesAt (layoutOf e) b (x .1)))) leaf (found-down h (a .0) (a .1)) (a .2) b′ d .kept)
+    (way-quiet n (a .0 .trail) (followingAt (suc n) (pagesAt (layoutOf e) b) 0 (drop (suc (a .0 .at)) (pagesAt (layoutOf e) b (x .1)))) (sparseAt e (pagesAt (layoutOf e) b) (x .1)) leaf (found-down h (a .0) (a .1)) (a .2) b′ d .kept)
 
--- The page of level 0 that covers the key is still the one found.
-pub way-cover : (n : ℕ) {e P : ℕ} {b : List ℕ} {x : Ref} {w key position : ℕ} (τ : ℕ) (leaf : Leaf) → RemovePre e P (suc n) b x w key position
-    → Way w key (pagesAt (layoutOf e) b) n (x .1) position τ leaf → (b′ : List ℕ)
-    → ((μ : ℕ) → StruckNear e b (leaf .page .0) (leaf .at) (leaf .trail) (leaf .before) μ b′) → RemovePre e P (suc n) b′ x w key position
-    → coverSize n (leftFrom w key position) (numberedAt 65535 (suc n) (pagesAt (layoutOf e) b′) x) ≡ length (pagesAt (layoutOf e) b′ (leaf .page .0))
-way-cover zero {e} {P} {x = x} τ leaf h a b′ d h′ = number-size e P b′ 0 x ∙ ap (λ (p : ℕ). length (pagesAt (layoutOf e) b′ p)) (sym (a .page-is))
-way-cover (suc n) {e} {P} {b} {x} {w} {key} {position} τ leaf h a b′ d h′ =
+-- What is known of the lowest level to merge from: the page found and, for the third, the page above it have a quarter of e entries or more.
+pub record LowestKnown (e : ℕ) (b′ : List ℕ) (leaf : Leaf) (lowest : ℕ) : Type 0 where
+  pub some : 1 ≤ lowest
+  pub high : lowest ≤ 3
+  pub own : 2 ≤ lowest → sparseAt e (pagesAt (layoutOf e) b′) (leaf .page .0) ≡ false
+  pub above : 3 ≤ lowest → leaf .thin ≡ false
+
+pub lowest-known : (e : ℕ) (b′ : List ℕ) (leaf : Leaf) → LowestKnown e b′ leaf (lowestLevel e (pagesAt (layoutOf e) b′) leaf)
+lowest-known e b′ leaf = go (sparseAt e (pagesAt (layoutOf e) b′) (leaf .page .0)) (leaf .thin) refl refl
+  where
+    go : (t u : Bool) → sparseAt e (pagesAt (layoutOf e) b′) (leaf .page .0) ≡ t → leaf .thin ≡ u → LowestKnown e b′ leaf (cond t 1 (cond u 2 3))
+    go true u y z = record { some = omega arith; high = omega arith; own = λ l. absurd (omega arith); above = λ l. absurd (omega arith) }
+    go false true y z = record { some = omega arith; high = omega arith; own = λ l. y; above = λ l. absurd (omega arith) }
+    go false false y z = record { some = omega arith; high = omega arith; own = λ l. y; above = λ l. z }
+
+-- A test that holds only from a level on.
+only-from : (k lowest : ℕ) (t : Bool) → (k < lowest → t ≡ false) → (ltb k lowest && t) ≡ false
+only-from k lowest t f = go (ltb k lowest) refl
+  where
+    go : (u : Bool) → ltb k lowest ≡ u → (u && t) ≡ false
+    go true z = f (ltb-true k lowest z)
+    go false z = refl
+
+-- No page on the way is missed.
+pub way-none : (n : ℕ) {e P : ℕ} {b : List ℕ} {x : Ref} {w key position : ℕ} (τ : ℕ) (few : Bool) (leaf : Leaf) (lowest : ℕ) → RemovePre e P (suc n) b x w key position
+    → Way w key e (pagesAt (layoutOf e) b) n (x .1) position τ few leaf → (b′ : List ℕ)
+    → ((μ : ℕ) → StruckNear e b (leaf .page .0) (leaf .at) (leaf .trail) (leaf .before) μ b′) → RemovePre e P (suc n) b′ x w key position → LowestKnown e b′ leaf lowest
+    → noneMissed e lowest n (leftFrom w key position) (numberedAt 65535 (suc n) (pagesAt (layoutOf e) b′) x) ≡ true
+way-none zero τ few leaf lowest h a b′ d h′ k = refl
+way-none (suc n) {e} {P} {b} {x} {w} {key} {position} τ few leaf lowest h a b′ d h′ k =
     let s = a .0 in
+    let pages = pagesAt (layoutOf e) b in
     let pages′ = pagesAt (layoutOf e) b′ in
-    let same : pages′ (x .1) ≡ pagesAt (layoutOf e) b (x .1) = way-row τ leaf h a b′ d in
+    let same : pages′ (x .1) ≡ pages (x .1) = way-row τ few leaf h a b′ d in
     let a′ : Stopped w key position τ (pages′ (x .1)) s = subst (λ (l : List Ref). Stopped w key position τ l s) (sym same) (a .1) in
-    cover-at h′ s a′ ∙ ap (λ (l : List Ref). coverSize n (leftFrom w key (s .position)) (numberedAt 65535 (suc n) pages′ (getD l (s .at) (0, 0)))) same
-    ∙ way-cover n (s .trail) leaf (found-down h s (a .1)) (a .2) b′ d
-    (subst (λ (l : List Ref). RemovePre e P (suc n) b′ (getD l (s .at) (0, 0)) w key (s .position)) same (found-down h′ s a′))
+    let y : Ref = getD (pages (x .1)) (s .at) (0, 0) in
+    let down = found-down h s (a .1) in
+    let below = way-none n (s .trail) (sparseAt e pages (x .1)) leaf lowest down (a .2) b′ d
+    (subst (λ (l : List Ref). RemovePre e P (suc n) b′ (getD l (s .at) (0, 0)) w key (s .position)) same (found-down h′ s a′)) k in
+    missed-at lowest h′ s a′
+    ∙ ap (λ (l : List Ref). told pages′ (s .position) (getD l (s .at) (0, 0))) same
+    ∙ ap (λ (t : Bool). cond t false (noneMissed e lowest n (leftFrom w key (s .position)) (numberedAt 65535 (suc n) pages′ y)))
+    (only-from (suc n) lowest (ltb (4 * length (numberedAt 65535 (suc n) pages′ y .1)) e)
+    (λ l. ap (λ (m : ℕ). ltb (4 * m) e) (number-size e P b′ n y) ∙ calm n (s .trail) (sparseAt e pages (x .1)) l down (a .2)))
+    ∙ below
+  where
+    told : Pages → ℕ → Ref → Bool
+    told f q z = cond (missed e lowest n (numberedAt 65535 (suc n) f z)) false (noneMissed e lowest n (leftFrom w key q) (numberedAt 65535 (suc n) f z))
+
+    -- The page found, the one above it, or a page that is not asked for.
+    calm : (m σ : ℕ) (t : Bool) {y : Ref} {q : ℕ} → suc m < lowest → RemovePre e P (suc m) b y w key q → Way w key e (pagesAt (layoutOf e) b) m (y .1) q σ t leaf
+        → sparseAt e (pagesAt (layoutOf e) b′) (y .1) ≡ false
+    calm zero σ t l g r = ap (sparseAt e (pagesAt (layoutOf e) b′)) (sym (r .page-is)) ∙ k .own (omega (arith, l))
+    calm (suc zero) σ t l g r =
+        ap (λ (row : List Ref). ltb (4 * length row) e) (way-row σ t leaf g r b′ d) ∙ sym (r .2 .thin-is) ∙ k .above (omega (arith, l))
+    calm (suc (suc m)) σ t l g r = absurd (omega (arith, l, k .high))

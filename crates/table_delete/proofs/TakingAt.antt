@@ -25,11 +25,11 @@ use Rattle.table_search.specs.Places.{leftFrom, NextPosition, Way}
 use Rattle.page_delete.specs.OnePage.{NearPre, StruckNear}
 use Rattle.entry_delete.specs.declared.Remnant.{Remnant}
 use Rattle.tree_delete.specs.Removing.{RemovePre, RemovePost}
-use Rattle.tree_merge.specs.Merges.{coverSize, Covered}
-use Rattle.tree_merge.proofs.MergeSteps.{merge-low}
-use Rattle.table_delete.specs.Taking.{LowerPre, LowerPost, FinishPre, FinishPost, TakePre, TakeAtPre, TakePost}
+use Rattle.tree_merge.specs.Merges.{noneMissed, Covered}
+use Rattle.tree_merge.proofs.MergeSteps.{covered-all, merge-low}
+use Rattle.table_delete.specs.Taking.{lowestLevel, LowerPre, LowerPost, FinishPre, FinishPost, TakePre, TakeAtPre, TakePost}
 use Rattle.table_delete.specs.Blanking.{Quiet, BlankPre}
-use Rattle.table_delete.proofs.QuietWays.{LeafPage, way-page, way-quiet, way-row, way-cover}
+use Rattle.table_delete.proofs.QuietWays.{LeafPage, way-page, way-quiet, way-row, LowestKnown, lowest-known, way-none}
 use Rattle.table_delete.proofs.Finishing.{finish-remove, finish-merge, finish-lower, finish-post}
 use Rattle.table_delete.proofs.Lowering.{lower-leaf, lower-stop}
 use Rattle.table_delete.proofs.TakingOut.{take-remove, take-finish, take-post}
@@ -39,7 +39,7 @@ module _ {b : List ℕ} {e P level : ℕ} (root : PageNo) {w key : ℕ} {leaf : 
   remove-pre = rw (add-one level) at (take-remove (pre .take) bytes (pre .first) (root .0) (pre .begins) refl)
 
   leaf-page : LeafPage e P b leaf
-  leaf-page = way-page level 0 leaf remove-pre (pre .way)
+  leaf-page = way-page level 0 false leaf remove-pre (pre .way)
 
   -- The page found can be changed.
   pub take-near : NearPre e b (leaf .page .0) (leaf .at)
@@ -54,7 +54,7 @@ module _ {b : List ℕ} {e P level : ℕ} (root : PageNo) {w key : ℕ} {leaf : 
 
   -- The page alone changes.
   pub near-quiet : (b′ : List ℕ) → ((ν : ℕ) → StruckNear e b (leaf .page .0) (leaf .at) (leaf .trail) (leaf .before) ν b′) → Quiet e P (suc level) b (rootRef (root .0)) (leftFrom w key (pre .first)) 0 0 b′
-  near-quiet b′ d = way-quiet level 0 0 leaf remove-pre (pre .way) b′ d
+  near-quiet b′ d = way-quiet level 0 0 false leaf remove-pre (pre .way) b′ d
 
 -- The entry found from the root down may become a dummy.
 pub take-blank : {b : List ℕ} {e P level : ℕ} (root : PageNo) {w key first : ℕ} → TakePre b e P level (root .0) w key → Bytes b → NextPosition w key 0 first
@@ -95,21 +95,19 @@ module _ {b : List ℕ} {e P level : ℕ} (root : PageNo) {w key : ℕ} {leaf : 
   pub near-within : Within (layoutOf e) b′ (leaf .page .0)
   near-within = within-table (layoutOf e) P (leaf .page .0) b′ (omega (arith, pre .take .tree .table, quiet .kept .long)) (leaf-page root pre bytes .sized .number)
 
-  module _ {k : ℕ} (k-is : k ≡ countOf (pageBytes (layoutOf e) b′ (leaf .page .0))) {lowest : ℕ} (lowest-is : lowest ≡ cond (ltb (4 * k) e) 1 2) where
-    cover-is : coverSize level (positions 0 (bits w key)) (numberedAt 65535 (suc level) (pagesAt (layoutOf e) b′) (rootRef (root .0))) ≡ k
-    cover-is =
-        ap (λ (bs : List ℕ). coverSize level bs (numberedAt 65535 (suc level) (pagesAt (layoutOf e) b′) (rootRef (root .0)))) (pre .begins .left)
-        ∙ way-cover level 0 leaf (remove-pre root pre bytes) (pre .way) b′ d (finish-remove (quiet-finish root (pre .take) (pre .begins) b′ quiet 1 (inl refl)) (pre .begins))
-        ∙ length-refs (layoutOf e) (pageBytes (layoutOf e) b′ (leaf .page .0)) ∙ sym k-is
+  module _ {lowest : ℕ} (lowest-is : lowest ≡ lowestLevel e (pagesAt (layoutOf e) b′) leaf) where
+    known : LowestKnown e b′ leaf lowest
+    known = rw lowest-is (lowest-known e b′ leaf)
 
     near-covered : Covered e level b′ (rootRef (root .0)) (positions 0 (bits w key)) lowest
-    near-covered = go (ltb (4 * k) e) refl lowest-is
-      where
-        go : (t : Bool) → ltb (4 * k) e ≡ t → lowest ≡ cond t 1 2 → Covered e level b′ (rootRef (root .0)) (positions 0 (bits w key)) lowest
-        go true z l = inl l
-        go false z l = inr (l, ap (λ (m : ℕ). ltb (4 * m) e) cover-is ∙ z)
+    near-covered = record {
+      some = known .some;
+      none =
+          ap (λ (bs : List ℕ). noneMissed e lowest level bs (numberedAt 65535 (suc level) (pagesAt (layoutOf e) b′) (rootRef (root .0)))) (pre .begins .left)
+          ∙ way-none level 0 false leaf lowest (remove-pre root pre bytes) (pre .way) b′ d (finish-remove (quiet-finish root (pre .take) (pre .begins) b′ quiet 1 covered-all) (pre .begins)) known;
+    }
 
-    -- So pages can be merged from its level or the next up.
+    -- So pages can be merged from that level up.
     pub near-finish : FinishPre e P level b′ (root .0) w key lowest
     near-finish = quiet-finish root (pre .take) (pre .begins) b′ quiet lowest near-covered
 
@@ -117,13 +115,13 @@ module _ {b : List ℕ} {e P level : ℕ} (root : PageNo) {w key : ℕ} {leaf : 
     lowered : LowerPre e P level b′ (root .0) → LowerPost e P level b′ (root .0) b′ (record { page = root; level = level })
     lowered = go level (remove-pre root pre bytes) (pre .way) (pre .take .tree .pages .root-rule)
       where
-        go : (n : ℕ) → RemovePre e P (suc n) b (rootRef (root .0)) w key (pre .first) → Way w key (pagesAt (layoutOf e) b) n (root .0) (pre .first) 0 leaf
+        go : (n : ℕ) → RemovePre e P (suc n) b (rootRef (root .0)) w key (pre .first) → Way w key e (pagesAt (layoutOf e) b) n (root .0) (pre .first) 0 false leaf
             → (1 ≤ n → 2 ≤ length (pagesAt (layoutOf e) b (root .0))) → LowerPre e P n b′ (root .0) → LowerPost e P n b′ (root .0) b′ (record { page = root; level = n })
         go zero h a rule l = lower-leaf zero root refl l
         go (suc n) h a rule l =
             lower-stop (suc n) root (λ y. omega (arith, y)) l refl
             (λ y. let k = rule (omega arith) in
-            let same : length (pagesAt (layoutOf e) b′ (root .0)) ≡ length (pagesAt (layoutOf e) b (root .0)) = ap length (way-row 0 leaf h a b′ d) in
+            let same : length (pagesAt (layoutOf e) b′ (root .0)) ≡ length (pagesAt (layoutOf e) b (root .0)) = ap length (way-row 0 false leaf h a b′ d) in
             omega (arith, y, k, same, length-refs (layoutOf e) (pageBytes (layoutOf e) b′ (root .0))))
 
     pub near-calm : level < lowest → TakePost b e P level (root .0) w key b′ (record { page = root; level = level })

@@ -1,5 +1,6 @@
 -- Removal from a whole tree, and the root rule. Assumes nothing.
 use mathlib.Core.Path.{_≡_}
+use mathlib.Core.Bool.{false, cond}
 use mathlib.Core.List.{List, [], _∷_}
 use Prim.Native.Nat.{ℕ, suc, _+_, _^_, _≤_, _<_}
 use lib.ListN.{length, take}
@@ -12,14 +13,18 @@ use Rattle.page_tree.specs.Tree.{leavesOf}
 use Rattle.page_tree.specs.OffPages.{offTree}
 use Rattle.page_tree.specs.Numbered.{lowerNumbered, rootedNumbered, mergeNumbered, offNumbered}
 use Rattle.index_table.specs.Layout.{layoutOf, pageBytes}
-use Rattle.index_table.specs.Pages.{pagesAt, met, inUse, numberedAt, rootRef, treeAt, numberedTreeAt}
+use Rattle.index_table.specs.Pages.{Pages, pagesAt, met, inUse, numberedAt, rootRef, treeAt, numberedTreeAt}
 use Rattle.index_table.specs.Soundness.{SizedPage, SoundBelow, SoundPages, Cleared}
 use Rattle.index_table.specs.declared.layout.Root.{Root}
 use Rattle.index_write.specs.Standing.{TreeTable, Owned}
 use Rattle.table_search.specs.declared.Leaf.{Leaf}
-use Rattle.table_search.specs.Places.{NextPosition, Way}
+use Rattle.table_search.specs.Places.{NextPosition, sparseAt, Way}
 use Rattle.tree_delete.specs.Keeping.{numbersAt, Linked, Paged}
 use Rattle.tree_merge.specs.Merges.{Covered}
+
+-- The lowest level whose pages may have a page below them to join, once the page of the leaf has changed alone.
+abbrev pub lowestLevel : ℕ → Pages → Leaf → ℕ
+lowestLevel e pages leaf = cond (sparseAt e pages (leaf .page .0)) 1 (cond (leaf .thin) 2 3)
 
 -- A root page of level n, below which pages may be changed.
 pub record LowerPre (e P n : ℕ) (b : List ℕ) (p : ℕ) : Type 0 where
@@ -75,7 +80,7 @@ pub record TakeAtPre (b : List ℕ) (e P level root w key : ℕ) (leaf : Leaf) :
   pub take : TakePre b e P level root w key
   pub first : ℕ
   pub begins : NextPosition w key 0 first
-  pub way : Way w key (pagesAt (layoutOf e) b) level root first 0 leaf
+  pub way : Way w key e (pagesAt (layoutOf e) b) level root first 0 false leaf
 
 -- The tree without the entry that figure 6 finds, its pages merged, under the root that is left.
 pub record TakePost (b : List ℕ) (e P level root w key : ℕ) (b′ : List ℕ) (r : Root) : Type 0 where

@@ -1,5 +1,8 @@
 // Deletion in the pages of a sound tree: within a page where that is enough, else across pages; then pages are merged, and the root rule comes last.
-ghost use Rattle.table_delete.specs.Taking.{LowerPre, LowerPost, FinishPre, FinishPost, TakePre, TakeAtPre, TakePost};
+ghost use mathlib.Core.Path.{_≡_};
+ghost use Rattle.index_table.specs.Layout.{Within, layoutOf};
+ghost use Rattle.index_table.specs.Pages.{pagesAt};
+ghost use Rattle.table_delete.specs.Taking.{lowestLevel, LowerPre, LowerPost, FinishPre, FinishPost, TakePre, TakeAtPre, TakePost};
 
 pub mod blank;
 
@@ -12,10 +15,10 @@ use index_write::write::free_page;
 use page_delete::strike_near;
 use table_search::Leaf;
 use table_search::next_position;
+use table_search::sparse;
 use tree_delete::removal::remove;
 use tree_delete::rows::page_of;
 use tree_delete::rows::pointer_to;
-use tree_merge::lowest_level;
 use tree_merge::merge;
 
 // The root rule: a root above level 0 with one entry is freed, and its child is the root.
@@ -38,6 +41,21 @@ fn lower(index: &mut [u8], e: u8, pages: u16, level: u8, page: PageNo) -> Root
     let below = child(index, e, page, 0);
     free_page(index, e, page);
     lower(index, e, pages, level - 1, below)
+}
+
+// Returns the lowest level whose pages may have a page below them to join, once the page of the leaf has changed alone: the page itself may be sparse now,
+// and the search has told whether the one above it is.
+fn lowest_level(index: &[u8], e: u8, leaf: Leaf) -> u8
+    requires { ⌜ Within (layoutOf e) (now index) (leaf .page .0) ⌝ }
+    ensures { λ r. ⌜ r ≡ lowestLevel e (pagesAt (layoutOf e) (now (index .entry))) leaf ⌝ }
+{
+    if sparse(index, e, leaf.page) {
+        return 1;
+    }
+    if leaf.thin {
+        return 2;
+    }
+    3
 }
 
 // What ends an off: pages are merged along the way of the key, from a lowest level up, and then the root rule.
@@ -94,7 +112,7 @@ pub fn take_out_at(
     ensures { λ r. ⌜ TakePost (now (index .entry)) e pages level (root .0) w key (now (index .exit)) r ⌝ }
 {
     if strike_near(index, e, leaf.page, leaf.at, leaf.trail, leaf.before) {
-        let lowest = lowest_level(e, count(index, e, leaf.page));
+        let lowest = lowest_level(index, e, leaf);
         if level < lowest {
             return Root {
                 page: root,

@@ -1,7 +1,7 @@
 -- Where a key's search ends in sound tables, and what its record is. Assumes nothing.
 use mathlib.Core.Path.{_≡_, sym, ap, subst, _∙_}
 use mathlib.Core.Logic.{_≢_}
-use mathlib.Core.Bool.{Bool, true, cond}
+use mathlib.Core.Bool.{Bool, true, false, cond}
 use mathlib.Core.Option.{Option, none, some}
 use mathlib.Core.List.{List, [], _∷_, reverseAux}
 use Prim.Native.Nat.{ℕ, _^_, _≤_, _<_}
@@ -34,13 +34,16 @@ use Rattle.index_table.proofs.Pointers.{record-nil, record-live}
 use Rattle.index_table.proofs.SoundNodes.{sound-tree, tree-depth}
 use Rattle.index_table.proofs.SoundTables.{keys-narrow, in-use-inside, herd-narrow, herd-sorted, herd-keys, table-long, root-within, leaf-depths}
 use Rattle.table_search.specs.declared.Leaf.{Leaf}
-use Rattle.table_search.specs.Places.{leftFrom, NextPosition, DescendPre, Descended}
-use Rattle.table_find.specs.Places.{FoundLeaf}
+use Rattle.table_search.specs.Places.{leftFrom, NextPosition, DescendPre, Descended, pageIn, numberLeaf, NumberPre}
+use Rattle.table_search.proofs.WayEnds.{way-end}
+use Rattle.index_table.proofs.PageBytes.{within-table}
+use Rattle.table_find.specs.Places.{numberedLeaf, FoundLeaf}
 use Rattle.table_find.specs.Answers.{plain, withRecord, found}
 
 -- The entry that was found, read off its number.
-pub found-read : {index keys used : List ℕ} {key : ℕ} {leaf r : Leaf} → FoundLeaf index keys used key leaf → r ≡ leaf → FoundLeaf index keys used key r
-found-read {index} {keys} {used} {key} at e = subst (FoundLeaf index keys used key) (sym e) at
+pub found-read : {index keys used : List ℕ} {key e : ℕ} {r : Leaf} (n : ℕ) → FoundLeaf index keys used key (numberedLeaf index n) → e ≡ entriesOf index → r ≡ numberLeaf (pagesAt (layoutOf e) index) n
+    → FoundLeaf index keys used key r
+found-read {index} {keys} {used} {key} n at z is = subst (FoundLeaf index keys used key) (sym (is ∙ ap (λ (m : ℕ). numberLeaf (pagesAt (layoutOf m) index) n) z)) at
 
 -- The records of the live entries are in use.
 pub live-used : {index keys used : List ℕ} → Sound index keys used → All (λ x. inUse used x ≡ true) (liveRecords (leafList (widthOf index) (herdOf keys used)))
@@ -73,7 +76,7 @@ module _ {index keys used : List ℕ} (s : Sound index keys used) (key : ℕ) (n
       }
 
   found-in : (position : ℕ) (r : Leaf) → NextPosition w key 0 position
-      → (d : Descended w key position 0 (rootLevel index) (pagesAt (layoutOf (entriesOf index)) index) (rootOf index) r)
+      → (d : Descended w key position 0 (rootLevel index) false (entriesOf index) (pagesAt (layoutOf (entriesOf index)) index) (rootOf index) r)
       → findFlat (positions 0 (bits w key)) 0 (leafList w herd) ≡ (leftFrom w key (d .next), r .trail, entry (r .depth) (recordOf 65535 (r .pointer)))
   found-in position r p d =
       ap (findFlat (positions 0 (bits w key)) 0) (sym (s .leaves))
@@ -83,7 +86,7 @@ module _ {index keys used : List ℕ} (s : Sound index keys used) (key : ℕ) (n
       ∙ d .found
 
   -- On the leaf list the search ends at that entry.
-  pub found-leaf : (position : ℕ) (r : Leaf) → NextPosition w key 0 position → Descended w key position 0 (rootLevel index) (pagesAt (layoutOf (entriesOf index)) index) (rootOf index) r
+  pub found-leaf : (position : ℕ) (r : Leaf) → NextPosition w key 0 position → Descended w key position 0 (rootLevel index) false (entriesOf index) (pagesAt (layoutOf (entriesOf index)) index) (rootOf index) r
       → FoundLeaf index keys used key r
   found-leaf position r p d =
       let at = findFlat-search [] (leafList w herd) (positions 0 (bits w key)) closed (positions-beyond 0 0 (bits w key) (omega arith)) in
@@ -155,6 +158,18 @@ module _ {index keys used : List ℕ} (s : Sound index keys used) (key : ℕ) (n
             (at-front ∙ ap (λ (o : Option ℕ). entry (r .depth) o ∷ at .after) e) behind
             .0
 
+-- The page of an entry found can be read at its place.
+pub found-place : {index keys used : List ℕ} {key : ℕ} → Sound index keys used → key < 2 ^ widthOf index → (r : ℕ) → FoundLeaf index keys used key (numberedLeaf index r)
+    → {e : ℕ} → e ≡ entriesOf index → NumberPre index e r
+found-place {index} s narrow r at z =
+    let end = way-end (numberedLeaf index r) (rootLevel index) 0 false (start-descend s _ narrow (at .first) (at .begins)) (at .way) in
+    rw z
+    (record {
+      within = within-table (layoutOf (entriesOf index)) (pagesOf index) (pageIn r) index (table-long s) (end .0 .number);
+      few = end .0 .few;
+      inside = end .1;
+    })
+
 -- The same, with the header's numbers as the code holds them.
 module _ {index keys used : List ℕ} (s : Sound index keys used) (h : Index) (i : IndexOf index h) where
   pub root-page : Within (layoutOf (h .entries)) index (h .root .0)
@@ -171,7 +186,7 @@ module _ {index keys used : List ℕ} (s : Sound index keys used) (h : Index) (i
     descend-start position p =
         rw (l, i .entries, i .root) (start-descend s key narrow position (subst (λ (n : ℕ). NextPosition n key 0 position) (e ∙ i .width) p))
 
-    pub descend-end : (position : ℕ) (r : Leaf) → NextPosition w key 0 position → Descended (widthOf index) key position 0 level (pagesAt (layoutOf (entriesOf index)) index) (h .root .0) r
+    pub descend-end : (position : ℕ) (r : Leaf) → NextPosition w key 0 position → Descended (widthOf index) key position 0 level false (entriesOf index) (pagesAt (layoutOf (entriesOf index)) index) (h .root .0) r
         → FoundLeaf index keys used key r
     descend-end position r p d =
         found-leaf s key narrow position r (subst (λ (n : ℕ). NextPosition n key 0 position) (e ∙ i .width) p) (rw (l, i .entries, i .root) at d)

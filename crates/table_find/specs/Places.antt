@@ -1,5 +1,6 @@
 -- Where a key's search ends in sound tables. Assumes nothing.
 use mathlib.Core.Path.{_≡_}
+use mathlib.Core.Bool.{false}
 use mathlib.Core.List.{List, [], _∷_}
 use Prim.Native.Nat.{ℕ}
 use Rattle.leaf_list.specs.Keys.{bits}
@@ -13,7 +14,11 @@ use Rattle.index_table.specs.Header.{widthOf, entriesOf, rootOf}
 use Rattle.index_table.specs.Pages.{pagesAt, recordOf}
 use Rattle.index_table.specs.Soundness.{rootLevel}
 use Rattle.table_search.specs.declared.Leaf.{Leaf}
-use Rattle.table_search.specs.Places.{NextPosition, Way}
+use Rattle.table_search.specs.Places.{NextPosition, Way, numberLeaf}
+
+-- The entry that a number means in an index table.
+abbrev pub numberedLeaf : List ℕ → ℕ → Leaf
+numberedLeaf index r = numberLeaf (pagesAt (layoutOf (entriesOf index)) index) r
 
 -- The entry that figure 6 finds on the leaf list of the register, and the depth before it.
 pub record FoundLeaf (index keys used : List ℕ) (key : ℕ) (r : Leaf) : Type 0 where
@@ -24,4 +29,4 @@ pub record FoundLeaf (index keys used : List ℕ) (key : ℕ) (r : Leaf) : Type 
   -- The way to it from the root, begun at the key's first position.
   pub first : ℕ
   pub begins : NextPosition (widthOf index) key 0 first
-  pub way : Way (widthOf index) key (pagesAt (layoutOf (entriesOf index)) index) (rootLevel index) (rootOf index) first 0 r
+  pub way : Way (widthOf index) key (entriesOf index) (pagesAt (layoutOf (entriesOf index)) index) (rootLevel index) (rootOf index) first 0 false r

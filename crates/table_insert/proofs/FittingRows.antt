@@ -1,5 +1,6 @@
 -- New entries for which the page found has room: no page is cut, and that page alone is changed. Assumes nothing.
 use mathlib.Core.Path.{_≡_, refl, sym, ap, subst, _∙_}
+use mathlib.Core.Bool.{Bool, false}
 use mathlib.Core.List.{List, [], _∷_, _++_, map, zip, zipWith}
 use Prim.Native.Nat.{ℕ, zero, suc, _+_, _-_, _^_, _≤_, _<_}
 use native.Mathlib.Omega.{arith}
@@ -28,7 +29,7 @@ use Rattle.index_write.specs.Storing.{newLeaves, splicedAt, rowWith}
 use Rattle.index_write.proofs.LoadedRows.{row-with}
 use Rattle.table_search.specs.declared.Leaf.{Leaf}
 use Rattle.table_search.specs.declared.Spot.{Spot}
-use Rattle.table_search.specs.Places.{leftFrom, NextPosition, Stopped, DescendPre, Way}
+use Rattle.table_search.specs.Places.{leftFrom, NextPosition, Stopped, sparseAt, DescendPre, Way}
 use Rattle.table_search.proofs.Stops.{read-entry}
 use Rattle.table_search.proofs.Descents.{descend-walk, descend-child}
 use Rattle.table_insert.specs.Placing.{Placed, PlacePost}
@@ -96,15 +97,15 @@ module _ {b : List ℕ} {e P n page w key position τ : ℕ} (new : Replacement)
 
 module _ (b : List ℕ) (e : ℕ) {P w key : ℕ} (news : Row) (leaf : Leaf) (room : length (pagesAt (layoutOf e) b (leaf .page .0)) + news .count ≤ suc e) where
   -- Along the way down: one part at each level, and no new page.
-  pub fitting-way : (n τ : ℕ) {page position : ℕ} → DescendPre b e P n page w key position → Way w key (pagesAt (layoutOf e) b) n page position τ leaf
+  pub fitting-way : (n τ : ℕ) (few : Bool) {page position : ℕ} → DescendPre b e P n page w key position → Way w key e (pagesAt (layoutOf e) b) n page position τ few leaf
       → (length (insertBelow e (newLeaves news) (suc n) (leftFrom w key position) τ (nodeAt 65535 (suc n) (pagesAt (layoutOf e) b) (0, page))) ≡ 1)
       × (pagesBelow e (newLeaves news) (suc n) (leftFrom w key position) τ (nodeAt 65535 (suc n) (pagesAt (layoutOf e) b) (0, page)) ≡ 0)
   unfolding nodeAt
-  fitting-way zero τ {page} pre way =
+  fitting-way zero τ few {page} pre way =
       fitting-step (newLeaves news) pre (way .place)
       (omega (arith, room, ap (λ (p : ℕ). length (pagesAt (layoutOf e) b p)) (way .page-is), length-map (rowOf news) (leafOf 65535), length-take (news .count) (places news)))
-  fitting-way (suc n) τ {page} pre way =
-      let below = fitting-way n (way .0 .trail) (descend-child n pre (way .0) (way .1) _ (ap (λ (z : Ref). z .1) (sym (read-entry (layoutOf e) b page (way .0 .at) (way .1 .inside))))) (way .2) in
+  fitting-way (suc n) τ few {page} pre way =
+      let below = fitting-way n (way .0 .trail) (sparseAt e (pagesAt (layoutOf e) b) page) (descend-child n pre (way .0) (way .1) _ (ap (λ (z : Ref). z .1) (sym (read-entry (layoutOf e) b page (way .0 .at) (way .1 .inside))))) (way .2) in
       let here = fitting-step (newLeaves news) pre (way .1) (omega (arith, below .0, pre .sound .0 .few)) in
       (here .0, here .1 ∙ below .1)
 
@@ -179,15 +180,15 @@ module _ (b : List ℕ) (e : ℕ) {P : ℕ} (news : Row) (leaf : Leaf) (room : l
   after = opened e b leaf news
 
   -- Along the way down: each page stands for itself.
-  fitting-replaced : (n : ℕ) {page w key position τ : ℕ} → InsertPre b e P n page w key position τ news → Way w key (pagesAt (layoutOf e) b) n page position τ leaf
+  fitting-replaced : (n : ℕ) (few : Bool) {page w key position τ : ℕ} → InsertPre b e P n page w key position τ news → Way w key e (pagesAt (layoutOf e) b) n page position τ few leaf
       → Replaced e P (newLeaves news) (suc n) (leftFrom w key position) τ b (pageRef e b page) after (rowOfOne (pageRef e after page))
-  fitting-replaced zero {page} {w} {key} {position} {τ} pre way =
+  fitting-replaced zero few {page} {w} {key} {position} {τ} pre way =
       let is = way .page-is in
       subst
       (λ (p : ℕ). (let stored′ : List ℕ = store (layoutOf e) b p (rowPage e 0 (splicedAt (leaf .at) (rowOf news) (pagesAt (layoutOf e) b p))) in
       Replaced e P (newLeaves news) 1 (leftFrom w key position) τ b (pageRef e b page) stored′ (rowOfOne (pageRef e stored′ page))))
       (sym is) (leaf-stored pre (fits page) (way .place) (omega (arith, room, ap (λ (p : ℕ). length (pagesAt (layoutOf e) b p)) is)) low)
-  fitting-replaced (suc n) {page} {w} {key} {position} {τ} pre way =
+  fitting-replaced (suc n) few {page} {w} {key} {position} {τ} pre way =
       let s : Spot = way .0 in
       let stop = way .1 in
       let below : ℕ = getD (pagesAt (layoutOf e) b page) (s .at) (0, 0) .1 in
@@ -197,14 +198,14 @@ module _ (b : List ℕ) (e : ℕ) {P : ℕ} (news : Row) (leaf : Leaf) (room : l
       let child : InsertPre b e P n below w key (s .position) (s .trail) news =
       subst (λ (k : ℕ). InsertPre b e P k below w key (s .position) (s .trail) news) m (child-insert (suc n) above pre (fits page) stop below is) in
       let h = child-replaced (suc n) above pre (fits page) stop below is
-      (subst (λ (k : ℕ). Replaced e P (newLeaves news) (suc k) (leftFrom w key (s .position)) (s .trail) b (pageRef e b below) after (rowOfOne (pageRef e after below))) (sym m) (fitting-replaced n child (way .2))) in
+      (subst (λ (k : ℕ). Replaced e P (newLeaves news) (suc k) (leftFrom w key (s .position)) (s .trail) b (pageRef e b below) after (rowOfOne (pageRef e after below))) (sym m) (fitting-replaced n (sparseAt e (pagesAt (layoutOf e) b) page) child (way .2))) in
       alone-done pre (fits page) stop h above refl (one-holds (pageRef e after page)) low
 
   -- So the tree is the one with the new entries, under the same root.
   pub fitting-put : {level root w key position : ℕ} → PutPre b e P level root w key news → NextPosition w key 0 position → length (rowOf news) ≡ news .count
-      → Way w key (pagesAt (layoutOf e) b) level root position 0 leaf → PutPost b e P level root w key news after (record { page = record { 0 = root }; level = level })
+      → Way w key e (pagesAt (layoutOf e) b) level root position 0 false leaf → PutPost b e P level root w key news after (record { page = record { 0 = root }; level = level })
   fitting-put {level} {root} pre next full way =
-      let h = fitting-replaced level (put-insert pre next full) way in
+      let h = fitting-replaced level false (put-insert pre next full) way in
       put-done pre next h (root-alone (put-grow pre next h) (one-full (pageRef e after root)) (omega arith))
 
 -- One part is the root.
@@ -215,13 +216,13 @@ grown-one E n (x ∷ y ∷ xs) h = absurd (omega arith)
 
 -- Rows 8 and 7 are not met where the page found has room.
 pub fitting-low : {b : List ℕ} {e P level root w key position : ℕ} (news : Row) (leaf : Leaf) → length (pagesAt (layoutOf e) b (leaf .page .0)) + news .count ≤ suc e
-    → TreeTable b e P level root w → key < 2 ^ w → NextPosition w key 0 position → Way w key (pagesAt (layoutOf e) b) level root position 0 leaf
+    → TreeTable b e P level root w → key < 2 ^ w → NextPosition w key 0 position → Way w key e (pagesAt (layoutOf e) b) level root position 0 false leaf
     → (insertTree e (newLeaves news) (positions 0 (bits w key)) (treeAt 65535 (pagesAt (layoutOf e) b) level root) .0 ≤ 15)
     × (pagesOf (insertTree e (newLeaves news) (positions 0 (bits w key)) (treeAt 65535 (pagesAt (layoutOf e) b) level root)) ≤ P)
 fitting-low {b} {e} {P} {level} {root} {w} {key} {position} news leaf room tree narrow next way =
     let t : Tree = treeAt 65535 (pagesAt (layoutOf e) b) level root in
     let one : 1 ≤ e = omega (arith, tree .entries-low) in
-    let fit = fitting-way b e news leaf room level 0 (root-descend tree narrow next) way in
+    let fit = fitting-way b e news leaf room level 0 false (root-descend tree narrow next) way in
     let bs : List ℕ = leftFrom w key position in
     let g = grown-one e level (insertBelow e (newLeaves news) (suc level) bs 0 (t .1)) (fit .0) in
     rw (next .left) (omega (arith, g .0, tree .pages .level-high), omega (arith, insertTree-pages e (newLeaves news) one bs t, fit .1, g .1, used-tree 65535 (layoutOf e) P b level root (tree .pages), used-few P (pagesAt (layoutOf e) b)))

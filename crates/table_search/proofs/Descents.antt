@@ -1,6 +1,7 @@
 -- The search from a page down: one level of it, in terms of the tree that the pages are read as. Assumes nothing.
 use mathlib.Core.Path.{_≡_, refl, sym, ap, subst, _∙_}
 use mathlib.Core.Logic.{_⊎_, inl, inr}
+use mathlib.Core.Bool.{Bool}
 use mathlib.Core.List.{List, [], _∷_, _++_, map, map-append}
 use Prim.Native.Nat.{ℕ, zero, suc, _+_, _-_, _≤_, _<_}
 use native.Mathlib.Omega.{arith}
@@ -25,7 +26,7 @@ use Rattle.index_table.proofs.PageBytes.{within-table}
 use Rattle.index_table.proofs.SoundNodes.{sound-depths, sound-nodes}
 use Rattle.table_search.specs.declared.Spot.{Spot}
 use Rattle.table_search.specs.declared.Leaf.{Leaf}
-use Rattle.table_search.specs.Places.{leftFrom, depthOf, SeekPre, Stopped, Ends, DescendPre, Way, Descended}
+use Rattle.table_search.specs.Places.{leftFrom, depthOf, SeekPre, Stopped, sparseAt, Ends, DescendPre, Way, Descended}
 use Rattle.table_search.proofs.Stops.{read-entry}
 
 -- The depths of what stands above level 0 are depths of level 0.
@@ -159,10 +160,10 @@ module _ {b : List ℕ} {e P n page w key position : ℕ} (pre : DescendPre b e 
 
 -- On level 0 the entry is the answer.
 pub descend-leaf : {b : List ℕ} {e P page w key position τ : ℕ} (n : ℕ) (pre : DescendPre b e P n page w key position) → n ≡ 0
-    → (r : Leaf) → Ends w key position τ page (pagesAt (layoutOf e) b page) r → Descended w key position τ n (pagesAt (layoutOf e) b) page r
+    → (few : Bool) (r : Leaf) → Ends w key position τ page few (pagesAt (layoutOf e) b page) r → Descended w key position τ n few e (pagesAt (layoutOf e) b) page r
 unfolding nodeAt
-descend-leaf (suc n) pre z r ends = absurd (omega arith)
-descend-leaf {b} {e} {P} {page} {w} {key} {position} {τ} zero pre z r ends =
+descend-leaf (suc n) pre z few r ends = absurd (omega arith)
+descend-leaf {b} {e} {P} {page} {w} {key} {position} {τ} zero pre z few r ends =
     record {
       next = ends .next;
       found =
@@ -195,13 +196,14 @@ module _ {b : List ℕ} {e P page w key position τ : ℕ} (n : ℕ) (pre : Desc
         high = stop .high;
       })
 
-  pub descend-found : (r : Leaf) → Descended w key (s .position) (s .trail) n (pagesAt (layoutOf e) b) below r → Descended w key position τ (suc n) (pagesAt (layoutOf e) b) page r
+  pub descend-found : (few : Bool) (r : Leaf) → Descended w key (s .position) (s .trail) n (sparseAt e (pagesAt (layoutOf e) b) page) e (pagesAt (layoutOf e) b) below r
+      → Descended w key position τ (suc n) few e (pagesAt (layoutOf e) b) page r
   unfolding nodeAt
-  descend-found r d =
+  descend-found few r d =
       record {
         next = d .next;
         found = descend-step pre s stop ∙ ap (λ (m : ℕ). findBelow (suc n) (leftFrom w key (s .position)) (s .trail) (nodeAt 65535 (suc n) (pagesAt (layoutOf e) b) (0, m))) (sym pointed) ∙ d .found;
-        way = (s, stop, subst (λ (m : ℕ). Way w key (pagesAt (layoutOf e) b) n m (s .position) (s .trail) r) pointed (d .way));
+        way = (s, stop, subst (λ (m : ℕ). Way w key e (pagesAt (layoutOf e) b) n m (s .position) (s .trail) (sparseAt e (pagesAt (layoutOf e) b) page) r) pointed (d .way));
       }
 
 -- The same, from a level above 0 to the one below it.
@@ -215,8 +217,9 @@ descend-down {b} {e} {P} {page} {w} {key} {position} {τ} (suc n) z pre s stop b
 
 pub descend-up : {b : List ℕ} {e P page w key position τ : ℕ} (level : ℕ) → (level ≡ 0 → ⊥) → (pre : DescendPre b e P level page w key position) (s : Spot)
     → Stopped w key position τ (pagesAt (layoutOf e) b page) s → (below : ℕ) → below ≡ refAt (layoutOf e) (pageBytes (layoutOf e) b page) (s .at) .1
-    → (r : Leaf) → Descended w key (s .position) (s .trail) (level - 1) (pagesAt (layoutOf e) b) below r → Descended w key position τ level (pagesAt (layoutOf e) b) page r
-descend-up zero z pre s stop below is r d = absurd (z refl)
-descend-up {b} {e} {P} {page} {w} {key} {position} {τ} (suc n) z pre s stop below is r d =
+    → (few : Bool) (r : Leaf) → Descended w key (s .position) (s .trail) (level - 1) (sparseAt e (pagesAt (layoutOf e) b) page) e (pagesAt (layoutOf e) b) below r
+    → Descended w key position τ level few e (pagesAt (layoutOf e) b) page r
+descend-up zero z pre s stop below is few r d = absurd (z refl)
+descend-up {b} {e} {P} {page} {w} {key} {position} {τ} (suc n) z pre s stop below is few r d =
     let m : suc n - 1 ≡ n = omega arith in
-    descend-found n pre s stop below is r (subst (λ (l : ℕ). Descended w key (s .position) (s .trail) l (pagesAt (layoutOf e) b) below r) m d)
+    descend-found n pre s stop below is few r (subst (λ (l : ℕ). Descended w key (s .position) (s .trail) l (sparseAt e (pagesAt (layoutOf e) b) page) e (pagesAt (layoutOf e) b) below r) m d)

@@ -1,39 +1,59 @@
 -- The entry on level 0 where the search of a page stops, and an entry as one number. Assumes nothing.
-use mathlib.Core.Path.{_≡_, refl, sym, subst, _∙_}
+use mathlib.Core.Path.{_≡_, refl, sym, ap, subst, _∙_}
+use mathlib.Core.Bool.{Bool, true, false, cond}
 use mathlib.Core.List.{List}
 use Prim.Native.Nat.{ℕ, zero, suc, _+_, _*_, _/_, _%_, _≤_, _<_}
 use native.Mathlib.Omega.{arith}
-use lib.ListN.{length}
+use lib.Dec.{eqb}
+use lib.ListN.{length, getD}
 use Rattle.leaf_list.proofs.Lists.{all-at}
 use Rattle.index_table.specs.Layout.{Ref, layoutOf, pageBytes, refAt}
-use Rattle.index_table.specs.Pages.{pagesAt}
+use Rattle.index_table.specs.Pages.{Pages, pagesAt}
 use Rattle.table_search.specs.declared.Leaf.{Leaf}
 use Rattle.table_search.specs.declared.Spot.{Spot}
-use Rattle.table_search.specs.Places.{SeekPre, Stopped, Ends, LeafLow, numberLeaf}
-use Rattle.table_search.proofs.Stops.{depthBefore, depth-before, read-entry, read-depth}
+use Rattle.table_search.specs.Places.{SeekPre, Stopped, Ends, LeafLow, placeIn, pageIn, pointerIn, trailIn, beforeIn, thinIn, LeafNumber, NumberPre, numberLeaf}
+use Rattle.table_search.proofs.Stops.{depthBefore, depth-before, read-entry}
 
 -- What a number is made of can be read off it.
-module _ (l : Leaf) (low : LeafLow l) (page-low : l .page .0 ≤ 65535) (r : ℕ) (is : r ≡ ((((l .before * 256 + l .trail) * 256 + l .depth) * 256 + l .at) * 65536 + l .page .0) * 65536 + l .pointer) where
-  at-of : r / 4294967296 % 256 ≡ l .at
-  at-of = omega (arith, is, low .at, low .pointer, page-low)
+module _ (l : Leaf) (low : LeafLow l) (page-low : l .page .0 ≤ 65535) (k : ℕ) (thin-is : k ≡ cond (l .thin) 1 0) (k-low : k ≤ 1)
+    (r : ℕ) (is : r ≡ ((((k * 256 + l .before) * 256 + l .trail) * 256 + l .at) * 65536 + l .page .0) * 65536 + l .pointer) where
+  top-is : r / 72057594037927936 ≡ k
+  top-is = omega (arith, is, low .at, low .pointer, low .trail, low .before, page-low)
 
-  pointer-of : r % 65536 ≡ l .pointer
-  pointer-of = omega (arith, is, low .pointer)
+  pub leaf-numbered : LeafNumber l r
+  leaf-numbered = record {
+    at-is = omega (arith, is, low .at, low .pointer, page-low);
+    pointer-is = omega (arith, is, low .pointer);
+    page-is = omega (arith, is, low .pointer, page-low);
+    trail-is = omega (arith, is, low .at, low .pointer, low .trail, page-low);
+    before-is = omega (arith, is, low .at, low .pointer, low .trail, low .before, page-low);
+    thin-is = ap (λ (n : ℕ). eqb n 1) (top-is ∙ thin-is) ∙ go (l .thin);
+  }
+    where
+      go : (t : Bool) → eqb (cond t 1 0) 1 ≡ t
+      go true = refl
+      go false = refl
 
-  page-of : r / 65536 % 65536 ≡ l .page .0
-  page-of = omega (arith, is, low .pointer, page-low)
+-- With the depth that stands in its page, the entry is known by its number.
+pub number-leaf : {l : Leaf} {r : ℕ} (pages : Pages) → LeafNumber l r → l .depth ≡ getD (pages (l .page .0)) (l .at) (0, 0) .0 → numberLeaf pages r ≡ l
+number-leaf {l} {r} pages n d =
+    let depth-is : getD (pages (pageIn r)) (placeIn r) (0, 0) .0 ≡ l .depth = (λ i. getD (pages (n .page-is i)) (n .at-is i) (0, 0) .0) ∙ sym d in
+    λ i. record {
+      at = n .at-is i;
+      pointer = n .pointer-is i;
+      page = record { 0 = n .page-is i };
+      depth = depth-is i;
+      trail = n .trail-is i;
+      before = n .before-is i;
+      thin = n .thin-is i;
+    }
 
-  depth-of : r / 1099511627776 % 256 ≡ l .depth
-  depth-of = omega (arith, is, low .at, low .pointer, low .depth, page-low)
-
-  trail-of : r / 281474976710656 % 256 ≡ l .trail
-  trail-of = omega (arith, is, low .at, low .pointer, low .depth, low .trail, page-low)
-
-  before-of : r / 72057594037927936 ≡ l .before
-  before-of = omega (arith, is, low .at, low .pointer, low .depth, low .trail, page-low)
-
-  pub number-leaf : numberLeaf r ≡ l
-  number-leaf = λ i. record { at = at-of i; pointer = pointer-of i; page = record { 0 = page-of i }; depth = depth-of i; trail = trail-of i; before = before-of i }
+-- The entry that a number means, with the depth that is read from its page.
+pub depth-read : {b : List ℕ} {e r p d : ℕ} → NumberPre b e r → p ≡ pointerIn r → d ≡ refAt (layoutOf e) (pageBytes (layoutOf e) b (pageIn r)) (placeIn r) .0
+    → _≡_ {A = Leaf} (record { at = placeIn r; pointer = p; page = record { 0 = pageIn r }; depth = d; trail = trailIn r; before = beforeIn r; thin = thinIn r }) (numberLeaf (pagesAt (layoutOf e) b) r)
+depth-read {b} {e} {r} pre p-is d-is =
+    let depth-is = d-is ∙ ap (λ (x : Ref). x .0) (read-entry (layoutOf e) b (pageIn r) (placeIn r) (pre .inside)) in
+    λ i. record { at = placeIn r; pointer = p-is i; page = record { 0 = pageIn r }; depth = depth-is i; trail = trailIn r; before = beforeIn r; thin = thinIn r }
 
 -- The place where the search of a page stops.
 module _ {b : List ℕ} {e page w key position τ : ℕ} (pre : SeekPre b e page w key position) (s : Spot) (stop : Stopped w key position τ (pagesAt (layoutOf e) b page) s) where
@@ -49,21 +69,20 @@ module _ {b : List ℕ} {e page w key position τ : ℕ} (pre : SeekPre b e page
       go (suc j) h = omega (arith, depth-before τ row j (omega arith), all-at (λ x. x .0 ≤ w) row j (0, 0) (omega arith) (pre .depths), pre .width)
 
   -- The entry there, as it is read.
-  module _ (d p : ℕ) (depth-is : d ≡ refAt (layoutOf e) (pageBytes (layoutOf e) b page) (s .at) .0) where
+  module _ (d p : ℕ) (few : Bool) (depth-is : d ≡ refAt (layoutOf e) (pageBytes (layoutOf e) b page) (s .at) .0) where
     abbrev leaf : Leaf
-    leaf = record { at = s .at; pointer = p; page = record { 0 = page }; depth = d; trail = s .trail; before = τ }
+    leaf = record { at = s .at; pointer = p; page = record { 0 = page }; depth = d; trail = s .trail; before = τ; thin = few }
 
     pub stop-low : τ ≤ 64 → e ≤ 255 → p ≤ 65535 → LeafLow leaf
     stop-low before-low e-low pointer-low =
         record {
           at = omega (arith, stop .inside, pre .few);
           pointer = pointer-low;
-          depth = omega (arith, read-depth (s .at) d pre (stop .inside) depth-is .0, pre .width);
           trail = stop-trail before-low;
           before = before-low;
         }
 
-    pub stop-ends : p ≡ refAt (layoutOf e) (pageBytes (layoutOf e) b page) (s .at) .1 → Ends w key position τ page row leaf
+    pub stop-ends : p ≡ refAt (layoutOf e) (pageBytes (layoutOf e) b page) (s .at) .1 → Ends w key position τ page few row leaf
     stop-ends pointer-is =
         record {
           page-is = refl;
@@ -71,4 +90,12 @@ module _ {b : List ℕ} {e page w key position τ : ℕ} (pre : SeekPre b e page
           place = stop;
           entry-is = sym (read-entry (layoutOf e) b page (s .at) (stop .inside)) ∙ λ i. (sym depth-is i, sym pointer-is i);
           before-is = refl;
+          thin-is = refl;
         }
+
+    -- So it is read off its number.
+    pub stop-number : p ≡ refAt (layoutOf e) (pageBytes (layoutOf e) b page) (s .at) .1 → {r : ℕ} → LeafNumber leaf r
+        → Ends w key position τ page few row (numberLeaf (pagesAt (layoutOf e) b) r)
+    stop-number pointer-is n =
+        let ends = stop-ends pointer-is in
+        subst (Ends w key position τ page few row) (sym (number-leaf (pagesAt (layoutOf e) b) n (sym (ap (λ (x : Ref). x .0) (ends .entry-is))))) ends

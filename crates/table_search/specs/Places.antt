@@ -1,11 +1,11 @@
 -- Where a search stands: what the code carries of the position list, and what a page's search answers. Assumes nothing.
 use mathlib.Core.Path.{_≡_}
-use mathlib.Core.Bool.{cond}
+use mathlib.Core.Bool.{Bool, cond}
 use mathlib.Core.Logic.{_⊎_}
 use mathlib.Core.List.{List, [], _∷_}
 use Prim.Native.Nat.{ℕ, zero, suc, _+_, _-_, _*_, _/_, _%_, _^_, _≤_, _<_}
 use lib.Count.{leadingZeros, trailingZeros}
-use lib.Dec.{eqb, leb}
+use lib.Dec.{eqb, leb, ltb}
 use lib.ListN.{length, getD, take, drop}
 use Rattle.leaf_list.specs.Keys.{bits, firstDifference}
 use Rattle.leaf_list.specs.Search.{positions}
@@ -103,47 +103,88 @@ pub record DescendPre (b : List ℕ) (e P n page w key position : ℕ) : Type 0 
   pub narrow : key < 2 ^ w
   pub high : position ≤ w + 1
 
--- The place found in a page of level 0, with the depth τ before the page; next is the next position there.
-pub record Ends (w key position τ page : ℕ) (row : List Ref) (r : Leaf) : Type 0 where
+-- A page with fewer than a quarter of the e entries that it may hold.
+abbrev pub sparseAt : ℕ → Pages → ℕ → Bool
+sparseAt e pages page = ltb (4 * length (pages page)) e
+
+-- The place found in a page of level 0, with the depth τ before the page, below a page that is sparse or not; next is the next position there.
+pub record Ends (w key position τ page : ℕ) (few : Bool) (row : List Ref) (r : Leaf) : Type 0 where
   pub page-is : r .page .0 ≡ page
   pub next : ℕ
   pub place : Stopped w key position τ row (record { at = r .at; position = next; trail = r .trail })
   pub entry-is : getD row (r .at) (0, 0) ≡ (r .depth, r .pointer)
   pub before-is : r .before ≡ τ
+  pub thin-is : r .thin ≡ few
 
--- The way from a page of level n down to the entry found: the place in each page, and the page below it.
-abbrev pub Way : ℕ → ℕ → Pages → ℕ → ℕ → ℕ → ℕ → Leaf → Type 0
-Way w key pages zero page position τ r = Ends w key position τ page (pages page) r
-Way w key pages (suc n) page position τ r =
-    (s : Spot) × Stopped w key position τ (pages page) s × Way w key pages n (getD (pages page) (s .at) (0, 0) .1) (s .position) (s .trail) r
+-- The way from a page of level n down to the entry found: the place in each page, and the page below it. e is what a page may hold.
+abbrev pub Way : ℕ → ℕ → ℕ → Pages → ℕ → ℕ → ℕ → ℕ → Bool → Leaf → Type 0
+Way w key e pages zero page position τ few r = Ends w key position τ page few (pages page) r
+Way w key e pages (suc n) page position τ few r =
+    (s : Spot) × Stopped w key position τ (pages page) s
+    × Way w key e pages n (getD (pages page) (s .at) (0, 0) .1) (s .position) (s .trail) (sparseAt e pages page) r
 
 -- The entry that figure 6 finds below a page of level n, with the positions left and the depth before it.
-pub record Descended (w key position τ n : ℕ) (pages : Pages) (page : ℕ) (r : Leaf) : Type 0 where
+pub record Descended (w key position τ n : ℕ) (few : Bool) (e : ℕ) (pages : Pages) (page : ℕ) (r : Leaf) : Type 0 where
   pub next : ℕ
   pub found :
       findBelow (suc n) (leftFrom w key position) τ (nodeAt 65535 (suc n) pages (0, page))
       ≡ (leftFrom w key next, r .trail, entry (r .depth) (recordOf 65535 (r .pointer)))
-  pub way : Way w key pages n page position τ r
+  pub way : Way w key e pages n page position τ few r
 
 -- An entry on level 0 whose numbers are small enough to stand in one.
 pub record LeafLow (l : Leaf) : Type 0 where
   pub at : l .at < 256
   pub pointer : l .pointer ≤ 65535
-  pub depth : l .depth ≤ 64
   pub trail : l .trail ≤ 64
   pub before : l .before ≤ 64
 
--- The entry that such a number means.
-abbrev pub numberLeaf : ℕ → Leaf
-numberLeaf r =
+-- What such a number means: the place in the page, the page, and what the entry points at,
+abbrev pub placeIn : ℕ → ℕ
+placeIn r = r / 4294967296 % 256
+
+abbrev pub pageIn : ℕ → ℕ
+pageIn r = r / 65536 % 65536
+
+abbrev pub pointerIn : ℕ → ℕ
+pointerIn r = r % 65536
+
+-- the depth before the entry, the one before its page, and whether the page above is sparse.
+abbrev pub trailIn : ℕ → ℕ
+trailIn r = r / 1099511627776 % 256
+
+abbrev pub beforeIn : ℕ → ℕ
+beforeIn r = r / 281474976710656 % 256
+
+abbrev pub thinIn : ℕ → Bool
+thinIn r = eqb (r / 72057594037927936) 1
+
+-- The number of an entry: all but its depth can be read off it.
+pub record LeafNumber (l : Leaf) (r : ℕ) : Type 0 where
+  pub at-is : placeIn r ≡ l .at
+  pub pointer-is : pointerIn r ≡ l .pointer
+  pub page-is : pageIn r ≡ l .page .0
+  pub trail-is : trailIn r ≡ l .trail
+  pub before-is : beforeIn r ≡ l .before
+  pub thin-is : thinIn r ≡ l .thin
+
+-- The entry that such a number means; its depth stands in its page.
+abbrev pub numberLeaf : Pages → ℕ → Leaf
+numberLeaf pages r =
     record {
-      at = r / 4294967296 % 256;
-      pointer = r % 65536;
-      page = record { 0 = r / 65536 % 65536 };
-      depth = r / 1099511627776 % 256;
-      trail = r / 281474976710656 % 256;
-      before = r / 72057594037927936;
+      at = placeIn r;
+      pointer = pointerIn r;
+      page = record { 0 = pageIn r };
+      depth = getD (pages (pageIn r)) (placeIn r) (0, 0) .0;
+      trail = trailIn r;
+      before = beforeIn r;
+      thin = thinIn r;
     }
+
+-- A number that means an entry of a page.
+pub record NumberPre (b : List ℕ) (e r : ℕ) : Type 0 where
+  pub within : Within (layoutOf e) b (pageIn r)
+  pub few : length (pagesAt (layoutOf e) b (pageIn r)) ≤ e
+  pub inside : placeIn r < length (pagesAt (layoutOf e) b (pageIn r))
 
 -- A page of level n from which the descent can begin, with the depth τ before it.
 pub record ReachPre (b : List ℕ) (n page key position τ : ℕ) : Type 0 where
@@ -151,6 +192,8 @@ pub record ReachPre (b : List ℕ) (n page key position τ : ℕ) : Type 0 where
   pub trail-low : τ ≤ 64
   pub entries-high : entriesOf b ≤ 255
 
--- The entry that it comes to.
-abbrev pub Reached : List ℕ → ℕ → ℕ → ℕ → ℕ → ℕ → Leaf → Type 0
-Reached b n page key position τ r = Descended (widthOf b) key position τ n (pagesAt (layoutOf (entriesOf b)) b) page r
+-- The entry that it comes to, as a number.
+abbrev pub Reached : List ℕ → ℕ → ℕ → ℕ → ℕ → ℕ → Bool → ℕ → Type 0
+Reached b n page key position τ few r =
+    let pages : Pages = pagesAt (layoutOf (entriesOf b)) b in
+    Descended (widthOf b) key position τ n few (entriesOf b) pages page (numberLeaf pages r)

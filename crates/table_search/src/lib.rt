@@ -3,9 +3,9 @@ ghost use mathlib.Core.Path.{_≡_};
 ghost use mathlib.Core.Bool.{cond};
 ghost use Prim.Native.Nat.{_+_, _-_, _%_, _^_, _≤_, _<_};
 ghost use lib.Dec.{leb};
-ghost use Rattle.index_table.specs.Layout.{layoutOf};
+ghost use Rattle.index_table.specs.Layout.{Within, layoutOf};
 ghost use Rattle.index_table.specs.Pages.{pagesAt};
-ghost use Rattle.table_search.specs.Places.{ahead, firstPosition, lastBefore, lastPosition, NextPosition, SeekPre, spotAt, Stopped, LeafLow, numberLeaf, ReachPre, Reached};
+ghost use Rattle.table_search.specs.Places.{ahead, firstPosition, lastBefore, lastPosition, NextPosition, SeekPre, spotAt, Stopped, sparseAt, LeafLow, LeafNumber, pointerIn, NumberPre, numberLeaf, ReachPre, Reached};
 use index_table::layout::PageNo;
 use index_table::layout::child;
 use index_table::layout::count;
@@ -24,7 +24,8 @@ pub struct Spot {
     pub trail: u64,
 }
 
-// An entry on level 0: its place in its page, what it points at, the page, its depth, the depth before it, and the depth before its page.
+// An entry on level 0: its place in its page, what it points at, the page, its depth, the depth before it, the depth before its page, and whether the
+// page above its page is sparse.
 pub struct Leaf {
     pub at: usize,
     pub pointer: u32,
@@ -32,6 +33,7 @@ pub struct Leaf {
     pub depth: u64,
     pub trail: u64,
     pub before: u64,
+    pub thin: bool,
 }
 
 // The bits of a key of w bits behind the first p.
@@ -157,35 +159,74 @@ pub fn seek(index: &[u8], e: u8, page: PageNo, w: u64, key: u64, position: u64, 
     spot_at(w, bits, trail, disc, i)
 }
 
-// An entry on level 0 as one number: the depth before its page, the one before it, its own, its place in its page, the page, and what it points at.
+// Says whether a page holds fewer than a quarter of the e entries that it may hold.
+pub fn sparse(index: &[u8], e: u8, page: PageNo) -> bool
+    requires { ⌜ Within (layoutOf e) (now index) (page .0) ⌝ }
+    ensures { λ r. ⌜ r ≡ sparseAt e (pagesAt (layoutOf e) (now (index .entry))) (page .0) ⌝ }
+{
+    4 * wide(count(index, e, page)) < wide(e)
+}
+
+// Returns 1 for true and 0 for false.
+fn one_if(flag: bool) -> u64
+    ensures { λ r. ⌜ (r ≡ cond flag 1 0) × (r ≤ 1) ⌝ }
+{
+    if flag {
+        return 1;
+    }
+    0
+}
+
+// Packs an entry on level 0 but for its depth into one number: whether the page above is sparse, the depth before its page, the one before it, its
+// place in its page, the page, and what it points at.
 fn leaf_number(leaf: Leaf) -> u64
     requires { ⌜ LeafLow leaf ⌝ }
-    ensures { λ r. ⌜ numberLeaf r ≡ leaf ⌝ }
+    ensures { λ r. ⌜ LeafNumber leaf r ⌝ }
 {
-    let depths = (leaf.before * 256 + leaf.trail) * 256 + leaf.depth;
+    let depths = (one_if(leaf.thin) * 256 + leaf.before) * 256 + leaf.trail;
     let place = (depths * 256 + leaf.at as u64) * 65536 + wide16(leaf.page.0) as u64;
     place * 65536 + leaf.pointer as u64
 }
 
-// The entry that a number means.
-pub fn numbered_leaf(number: u64) -> Leaf
-    ensures { λ r. ⌜ r ≡ numberLeaf number ⌝ }
+// Returns what the entry that a number means points at.
+pub fn number_pointer(number: u64) -> u32
+    ensures { λ r. ⌜ r ≡ pointerIn number ⌝ }
 {
+    (number % 65536) as u32
+}
+
+// Returns the entry that a number means; its depth is read from its page.
+pub fn numbered_leaf(index: &[u8], e: u8, number: u64) -> Leaf
+    requires { ⌜ NumberPre (now index) e number ⌝ }
+    ensures { λ r. ⌜ r ≡ numberLeaf (pagesAt (layoutOf e) (now (index .entry))) number ⌝ }
+{
+    let at = (number / 4294967296 % 256) as usize;
+    let page = PageNo((number / 65536 % 65536) as u16);
     Leaf {
-        at: (number / 4294967296 % 256) as usize,
-        pointer: (number % 65536) as u32,
-        page: PageNo((number / 65536 % 65536) as u16),
-        depth: number / 1099511627776 % 256,
-        trail: number / 281474976710656 % 256,
-        before: number / 72057594037927936,
+        at,
+        pointer: number_pointer(number),
+        page,
+        depth: deep(depth(index, e, page, at)),
+        trail: number / 1099511627776 % 256,
+        before: number / 281474976710656 % 256,
+        thin: number / 72057594037927936 == 1,
     }
 }
 
-// From a page of a level down to the entry that figure 6 finds. The position list is carried on by its next position, and the depth before with it. The
-// entry is one number, and the slice is behind a reference: a struct and a slice would go through memory on each level.
-pub fn descend(index: &&[u8], level: u8, page: PageNo, key: u64, position: u64, trail: u64) -> u64
+// From a page of a level down to the entry that figure 6 finds. The position list is carried on by its next position, and with it the depth before and
+// whether the page above is sparse. The entry is one number, and the slice is behind a reference: a struct and a slice would go through memory on each
+// level.
+pub fn descend(
+    index: &&[u8],
+    level: u8,
+    page: PageNo,
+    key: u64,
+    position: u64,
+    trail: u64,
+    thin: bool,
+) -> u64
     requires { ⌜ ReachPre (now (now index)) level (page .0) key position trail ⌝ }
-    ensures { λ r. ⌜ Reached (now (now (index .entry))) level (page .0) key position trail (numberLeaf r) ⌝ }
+    ensures { λ r. ⌜ Reached (now (now (index .entry))) level (page .0) key position trail thin r ⌝ }
 {
     let table = *index;
     let h = index_table::header::read(table);
@@ -199,8 +240,10 @@ pub fn descend(index: &&[u8], level: u8, page: PageNo, key: u64, position: u64, 
             depth: deep(depth(table, h.entries, page, s.at)),
             trail: s.trail,
             before: trail,
+            thin,
         });
     }
     let below = child(table, h.entries, page, s.at);
-    descend(index, level - 1, below, key, s.position, s.trail)
+    let few = sparse(table, h.entries, page);
+    descend(index, level - 1, below, key, s.position, s.trail, few)
 }

@@ -1,11 +1,11 @@
 -- From a page to the one below it that covers the key, and back: what is merged there, and then the two pages beside it. Assumes nothing.
 use mathlib.Core.Path.{_≡_, refl, sym, ap, ap₂, _∙_, subst}
-use mathlib.Core.Bool.{Bool, true, false, cond}
-use mathlib.Core.Logic.{_⊎_, inl, inr}
+use mathlib.Core.Bool.{Bool, true, false, cond, true≢false}
 use mathlib.Core.List.{List, [], _∷_}
 use Prim.Native.Nat.{ℕ, zero, suc, _+_, _-_, _*_, _≤_, _<_}
 use native.Mathlib.Omega.{arith}
 use lib.Dec.{ltb}
+use borrow.Author.Tests.{lt-ltb, le-ltb}
 use lib.ListN.{length, getD, take, drop}
 use Rattle.page_tree.specs.Walk.{rest, walk}
 use Rattle.page_tree.specs.Merging.{Offered, offer, accept, settle, mergeIn}
@@ -25,32 +25,69 @@ use Rattle.tree_delete.proofs.SweepTurns.{paged-then}
 use Rattle.tree_delete.proofs.FoundPlaces.{found-down, found-left, found-passes, found-stops, found-numbers}
 use Rattle.tree_delete.proofs.EntryStays.{row-same, entry-kept, front-stays, rest-stays}
 use Rattle.tree_delete.proofs.Removals.{remove-descend, locate-seek}
-use Rattle.tree_merge.specs.Merges.{PlacePre, besideAt, BesidePost, coverSize, Covered, MergePre, Merged}
+use Rattle.tree_merge.specs.Merges.{PlacePre, besideAt, BesidePost, missed, noneMissed, Covered, MergePre, Merged}
 
--- ---- a row whose thing found is not sparse
+-- ---- a row whose thing found is not sparse, and stays below
 
-module _ {A : Type 0} (E : ℕ) (depth size : A → ℕ) (glue : A → A → A) where
-  calm-walk : (bs : List ℕ) (τ : ℕ) (row : List A) → ltb (4 * walk depth (λ bs τ x xs. size x) (λ x r. r) 0 bs τ row) E ≡ false
-      → walk depth (λ bs τ x xs. offer E depth size glue x xs) (accept E depth size glue) (false, []) bs τ row ≡ (false, row)
+-- Where both parts of a test say yes.
+neither : (t u : Bool) → cond t false u ≡ true → (t ≡ false) × (u ≡ true)
+neither true u h = absurd (true≢false (sym h))
+neither false u h = (refl, h)
+
+module _ {A : Type 0} (E : ℕ) (depth size : A → ℕ) (glue : A → A → A) (below : List ℕ → A → A) (ok : List ℕ → A → Bool)
+    (same : (bs : List ℕ) (x : A) → ok bs x ≡ true → below bs x ≡ x) where
+  abbrev tested : List ℕ → ℕ → List A → Bool
+  tested = walk depth (λ bs τ x xs. cond (ltb (4 * size x) E) false (ok bs x)) (λ x r. r) true
+
+  abbrev offered : List ℕ → ℕ → List A → Offered A
+  offered = walk depth (λ bs τ x xs. offer E depth size glue (below bs x) xs) (accept E depth size glue) (false, [])
+
+  calm-found : (bs : List ℕ) (x : A) (xs : List A) → cond (ltb (4 * size x) E) false (ok bs x) ≡ true → offer E depth size glue (below bs x) xs ≡ (false, x ∷ xs)
+  calm-found bs x xs h =
+      let k = neither (ltb (4 * size x) E) (ok bs x) h in
+      ap (λ (y : A). offer E depth size glue y xs) (same bs x (k .1)) ∙ ap (λ (t : Bool). (t, x ∷ xs)) (k .0)
+
+  calm-walk : (bs : List ℕ) (τ : ℕ) (row : List A) → tested bs τ row ≡ true → offered bs τ row ≡ (false, row)
   calm-walk bs τ [] h = refl
-  calm-walk [] τ (x ∷ xs) h = ap (λ (t : Bool). (t, x ∷ xs)) h
+  calm-walk [] τ (x ∷ xs) h = calm-found [] x xs h
   calm-walk (c ∷ bs) τ (x ∷ xs) h = go (ltb (depth x) c) (calm-walk (rest (depth x) c bs) (depth x) xs) h
     where
-      go : (t : Bool)
-          → (ltb (4 * walk depth (λ bs τ x xs. size x) (λ x r. r) 0 (rest (depth x) c bs) (depth x) xs) E ≡ false
-          → walk depth (λ bs τ x xs. offer E depth size glue x xs) (accept E depth size glue) (false, []) (rest (depth x) c bs) (depth x) xs ≡ (false, xs))
-          → ltb (4 * cond t (size x) (walk depth (λ bs τ x xs. size x) (λ x r. r) 0 (rest (depth x) c bs) (depth x) xs)) E ≡ false
-          → cond t (offer E depth size glue x xs)
-          (accept E depth size glue x (walk depth (λ bs τ x xs. offer E depth size glue x xs) (accept E depth size glue) (false, []) (rest (depth x) c bs) (depth x) xs))
-          ≡ (false, x ∷ xs)
-      go true f h = ap (λ (t : Bool). (t, x ∷ xs)) h
+      go : (t : Bool) → (tested (rest (depth x) c bs) (depth x) xs ≡ true → offered (rest (depth x) c bs) (depth x) xs ≡ (false, xs))
+          → cond t (cond (ltb (4 * size x) E) false (ok (c ∷ bs) x)) (tested (rest (depth x) c bs) (depth x) xs) ≡ true
+          → cond t (offer E depth size glue (below (c ∷ bs) x) xs) (accept E depth size glue x (offered (rest (depth x) c bs) (depth x) xs)) ≡ (false, x ∷ xs)
+      go true f h = calm-found (c ∷ bs) x xs h
       go false f h = ap (accept E depth size glue x) (f h)
 
--- A page of level 1 stays as it is.
-page-calm : (e : ℕ) (bs : List ℕ) (page : Numbered 2) → ltb (4 * coverSize 1 bs page) e ≡ false → mergeNumbered e 1 bs page ≡ page
-page-calm e bs page h =
-    ap (λ (r : Offered (Numbered 1)). (page .0, settle e (numberedDepth 1) (λ (z : Numbered 1). length (z .1)) (joinNumbered 0) (r .0) (r .1)))
-    (calm-walk e (numberedDepth 1) (λ (z : Numbered 1). length (z .1)) (joinNumbered 0) bs 0 (page .1) h)
+-- A page of a level under `lowest` stays as it is, where no page below it is missed.
+page-calm : (e lowest n : ℕ) → n < lowest → (bs : List ℕ) (page : Numbered (suc n)) → noneMissed e lowest n bs page ≡ true → mergeNumbered e n bs page ≡ page
+page-calm e lowest zero l bs page h = refl
+page-calm e lowest (suc n) l bs page h =
+    ap (λ (r : Offered (Numbered (suc n))). (page .0, settle e (numberedDepth (suc n)) size (joinNumbered n) (r .0) (r .1)))
+    (calm-walk e (numberedDepth (suc n)) size (joinNumbered n) (mergeNumbered e n) (noneMissed e lowest n) (page-calm e lowest n (omega arith)) bs 0 (page .1)
+    (rw (lt-ltb (suc n) lowest l) at h))
+  where
+    size : Numbered (suc n) → ℕ
+    size z = length (z .1)
+
+-- Where merging begins with level 1, none is missed.
+walk-true : {A : Type 0} (depth : A → ℕ) (found : List ℕ → A → Bool) → ((bs : List ℕ) (x : A) → found bs x ≡ true) → (bs : List ℕ) (τ : ℕ) (row : List A)
+    → walk depth (λ bs τ x xs. found bs x) (λ x r. r) true bs τ row ≡ true
+walk-true depth found all bs τ [] = refl
+walk-true depth found all [] τ (x ∷ xs) = all [] x
+walk-true depth found all (c ∷ bs) τ (x ∷ xs) = go (ltb (depth x) c) (walk-true depth found all (rest (depth x) c bs) (depth x) xs)
+  where
+    go : (t : Bool) → walk depth (λ bs τ x xs. found bs x) (λ x r. r) true (rest (depth x) c bs) (depth x) xs ≡ true
+        → cond t (found (c ∷ bs) x) (walk depth (λ bs τ x xs. found bs x) (λ x r. r) true (rest (depth x) c bs) (depth x) xs) ≡ true
+    go true h = all (c ∷ bs) x
+    go false h = h
+
+none-missed : (e n : ℕ) (bs : List ℕ) (page : Numbered (suc n)) → noneMissed e 1 n bs page ≡ true
+none-missed e zero bs page = refl
+none-missed e (suc n) bs page =
+    walk-true (numberedDepth (suc n)) (λ bs x. cond (missed e 1 n x) false (noneMissed e 1 n bs x)) (λ bs x. rw (le-ltb (suc n) 1 (omega arith)) (none-missed e n bs x)) bs 0 (page .1)
+
+pub covered-all : {e n : ℕ} {b : List ℕ} {x : Ref} {bs : List ℕ} → Covered e n b x bs 1
+covered-all {e} {n} {b} {x} {bs} = record { some = omega arith; none = none-missed e n bs (numberedAt 65535 (suc n) (pagesAt (layoutOf e) b) x) }
 
 -- ---- one entry
 
@@ -72,25 +109,16 @@ one-then {L} {P} {n} {b} {b₁} {b₂} {x} h g = record {
 one-kept : {e P n : ℕ} {b : List ℕ} {x : Ref} {w key position : ℕ} → RemovePre e P n b x w key position → Kept (layoutOf e) P n b (met n (pagesAt (layoutOf e) b) x) b (x ∷ [])
 one-kept h = record { long = refl; front = refl; pages = λ q. omega arith; same = λ q u. refl; cleared = λ q c. c; linked = (h .back .linked, tt) }
 
--- On level 0 nothing is merged, nor on level 1, where the page found is not sparse.
+-- From a page of a level under `lowest` nothing is merged.
 pub merge-low : (n : ℕ) {e P : ℕ} {b : List ℕ} {x : Ref} {w key position lowest : ℕ} → n < lowest → MergePre e P n b x w key position lowest → Merged e P n b x (leftFrom w key position) b
-merge-low n {e} {P} {b} {x} {w} {key} {position} {lowest} l h = record { kept = one-kept (h .remove); number = go n l (h .covered) }
-  where
-    go : (n : ℕ) → n < lowest → Covered e n b x (leftFrom w key position) lowest
-        → numberedAt 65535 (suc n) (pagesAt (layoutOf e) b) x ≡ mergeNumbered e n (leftFrom w key position) (numberedAt 65535 (suc n) (pagesAt (layoutOf e) b) x)
-    go zero l c = refl
-    go (suc zero) l (inl z) = absurd (omega (arith, z, l))
-    go (suc zero) l (inr z) = sym (page-calm e (leftFrom w key position) (numberedAt 65535 2 (pagesAt (layoutOf e) b) x) (z .1))
-    go (suc (suc n)) l (inl z) = absurd (omega (arith, z, l))
-    go (suc (suc n)) l (inr z) = absurd (omega (arith, z .0, l))
+merge-low n {e} {P} {b} {x} {w} {key} {position} {lowest} l h = record {
+  kept = one-kept (h .remove);
+  number = sym (page-calm e lowest n l (leftFrom w key position) (numberedAt 65535 (suc n) (pagesAt (layoutOf e) b) x) (h .covered .none));
+}
 
 -- Above, there is a page below.
 pub merge-above : {e P n : ℕ} {b : List ℕ} {x : Ref} {w key position lowest : ℕ} → MergePre e P n b x w key position lowest → lowest ≤ n → n ≡ 0 → ⊥
-merge-above {n = n} {lowest = lowest} h l z = go (h .covered)
-  where
-    go : {A : Type 0} → (lowest ≡ 1) ⊎ ((lowest ≡ 2) × A) → ⊥
-    go (inl y) = absurd (omega (arith, y, l, z))
-    go (inr y) = absurd (omega (arith, y .0, l, z))
+merge-above h l z = omega (arith, h .covered .some, l, z)
 
 module _ {e P n : ℕ} {b : List ℕ} {x : Ref} {w key position : ℕ} (h : RemovePre e P (suc n) b x w key position) where
   -- The page can be searched,
@@ -103,19 +131,22 @@ module _ {e P n : ℕ} {b : List ℕ} {x : Ref} {w key position : ℕ} (h : Remo
 
 -- ---- a page of level n + 1
 
--- The page of level 0 that covers the key is found below the entry found.
-pub cover-at : {e P n : ℕ} {b : List ℕ} {x : Ref} {w key position τ : ℕ} (h : RemovePre e P (suc (suc n)) b x w key position) (s : Spot) (a : Stopped w key position τ (pagesAt (layoutOf e) b (x .1)) s)
-    → coverSize (suc n) (leftFrom w key position) (numberedAt 65535 (suc (suc n)) (pagesAt (layoutOf e) b) x)
-    ≡ coverSize n (leftFrom w key (s .position)) (numberedAt 65535 (suc n) (pagesAt (layoutOf e) b) (getD (pagesAt (layoutOf e) b (x .1)) (s .at) (0, 0)))
+-- Whether a page is missed on the way is told by the entry found, and then below it.
+pub missed-at : {e P n : ℕ} {b : List ℕ} {x : Ref} {w key position τ : ℕ} (lowest : ℕ) (h : RemovePre e P (suc (suc n)) b x w key position) (s : Spot)
+    (a : Stopped w key position τ (pagesAt (layoutOf e) b (x .1)) s)
+    → (let y : Numbered (suc n) = numberedAt 65535 (suc n) (pagesAt (layoutOf e) b) (getD (pagesAt (layoutOf e) b (x .1)) (s .at) (0, 0)) in
+    noneMissed e lowest (suc n) (leftFrom w key position) (numberedAt 65535 (suc (suc n)) (pagesAt (layoutOf e) b) x)
+    ≡ cond (missed e lowest n y) false (noneMissed e lowest n (leftFrom w key (s .position)) y))
 unfolding numberedAt
-cover-at {e} {P} {n} {b} {x} {w} {key} {position} h s a =
+missed-at {e} {P} {n} {b} {x} {w} {key} {position} lowest h s a =
     let pages = pagesAt (layoutOf e) b in
     let row = pages (x .1) in
     let y = numberedAt 65535 (suc n) pages (getD row (s .at) (0, 0)) in
-    ap (walk (numberedDepth (suc n)) (λ bs τ z zs. coverSize n bs z) (λ z r. r) 0 (leftFrom w key position) 0) (found-numbers h s a)
-    ∙ find-at (numberedDepth (suc n)) (λ bs τ z zs. coverSize n bs z) 0 (leftFrom w key position) 0 (numbersAt (suc n) pages (take (s .at) row)) y (numbersAt (suc n) pages (drop (suc (s .at)) row))
+    let told : List ℕ → Numbered (suc n) → Bool = λ bs z. cond (missed e lowest n z) false (noneMissed e lowest n bs z) in
+    ap (walk (numberedDepth (suc n)) (λ bs τ z zs. told bs z) (λ z r. r) true (leftFrom w key position) 0) (found-numbers h s a)
+    ∙ find-at (numberedDepth (suc n)) (λ bs τ z zs. told bs z) true (leftFrom w key position) 0 (numbersAt (suc n) pages (take (s .at) row)) y (numbersAt (suc n) pages (drop (suc (s .at)) row))
     (found-passes h s a) (found-stops h s a)
-    ∙ ap (λ (bs : List ℕ). coverSize n bs y) (found-left h s a)
+    ∙ ap (λ (bs : List ℕ). told bs y) (found-left h s a)
 
 module _ {e P n : ℕ} {b : List ℕ} {x : Ref} {w key position τ : ℕ} (h : RemovePre e P (suc (suc n)) b x w key position) (s : Spot) (a : Stopped w key position τ (pagesAt (layoutOf e) b (x .1)) s)
     (b₁ : List ℕ) (m : Merged e P n b (getD (pagesAt (layoutOf e) b (x .1)) (s .at) (0, 0)) (leftFrom w key (s .position)) b₁) where
@@ -195,11 +226,13 @@ module _ (n : ℕ) {e P : ℕ} {b : List ℕ} {x : Ref} {w key position τ : ℕ
   h-at = rw above (pre .remove)
 
   cover-down : Covered e (n - 1) b (getD (pagesAt (layoutOf e) b (x .1)) (s .at) (0, 0)) (leftFrom w key (s .position)) lowest
-  cover-down = go (rw (← above) at (pre .covered))
-    where
-      go : Covered e (suc (n - 1)) b x (leftFrom w key position) lowest → Covered e (n - 1) b (getD (pagesAt (layoutOf e) b (x .1)) (s .at) (0, 0)) (leftFrom w key (s .position)) lowest
-      go (inl z) = inl z
-      go (inr z) = inr (z .0, subst (λ (k : ℕ). ltb (4 * k) e ≡ false) (cover-at h-at s a) (z .1))
+  cover-down =
+      let y : Numbered (suc (n - 1)) = numberedAt 65535 (suc (n - 1)) (pagesAt (layoutOf e) b) (getD (pagesAt (layoutOf e) b (x .1)) (s .at) (0, 0)) in
+      let c = rw (← above) at (pre .covered) in
+      record {
+        some = c .some;
+        none = neither (missed e lowest (n - 1) y) (noneMissed e lowest (n - 1) (leftFrom w key (s .position)) y) (sym (missed-at lowest h-at s a) ∙ c .none) .1;
+      }
 
   -- The page below is one to merge from,
   pub merge-down : MergePre e P (n - 1) b (c, p) w key (s .position) lowest

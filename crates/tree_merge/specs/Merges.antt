@@ -1,7 +1,6 @@
 -- Pages joined below an entry, along the way of a key (02, request (i)). Assumes nothing.
 use mathlib.Core.Path.{_≡_}
-use mathlib.Core.Bool.{Bool, true, false, cond}
-use mathlib.Core.Logic.{_⊎_}
+use mathlib.Core.Bool.{Bool, true, false, cond, _&&_}
 use mathlib.Core.List.{List, [], _∷_, _++_}
 use Prim.Native.Nat.{ℕ, zero, suc, _+_, _*_, _≤_, _<_}
 use lib.Dec.{leb, ltb}
@@ -93,14 +92,20 @@ pub record RightPre (e P n : ℕ) (b : List ℕ) (x : Ref) (i : ℕ) : Type 0 wh
   pub sparse : SparsePre e P n b x i
   pub shut : LeftShut e (pagesAt (layoutOf e) b) (x .1) i
 
--- How many entries the page of level 0 that covers the key has.
-abbrev pub coverSize : (n : ℕ) → List ℕ → Numbered (suc n) → ℕ
-coverSize zero bs page = length (page .1)
-coverSize (suc n) bs page = walk (numberedDepth (suc n)) (λ bs τ x xs. coverSize n bs x) (λ x r. r) 0 bs 0 (page .1)
+-- Whether a page of level n is sparse and stands below a page of a level under `lowest`.
+abbrev pub missed : ℕ → ℕ → (n : ℕ) → Numbered (suc n) → Bool
+missed e lowest n page = ltb (suc n) lowest && ltb (4 * length (page .1)) e
 
--- Merging begins on level 1; or on level 2, where that page has a quarter of e entries or more.
-abbrev pub Covered : (e n : ℕ) (b : List ℕ) (x : Ref) (bs : List ℕ) (lowest : ℕ) → Type 0
-Covered e n b x bs lowest = (lowest ≡ 1) ⊎ ((lowest ≡ 2) × (ltb (4 * coverSize n bs (numberedAt 65535 (suc n) (pagesAt (layoutOf e) b) x)) e ≡ false))
+-- Whether no page below a page of level n, on the way of the key, is so: then nothing is to be joined below pages of a level under `lowest`.
+abbrev pub noneMissed : ℕ → ℕ → (n : ℕ) → List ℕ → Numbered (suc n) → Bool
+noneMissed e lowest zero bs page = true
+noneMissed e lowest (suc n) bs page =
+    walk (numberedDepth (suc n)) (λ bs τ x xs. cond (missed e lowest n x) false (noneMissed e lowest n bs x)) (λ x r. r) true bs 0 (page .1)
+
+-- Merging may begin with the pages of the level `lowest`.
+pub record Covered (e n : ℕ) (b : List ℕ) (x : Ref) (bs : List ℕ) (lowest : ℕ) : Type 0 where
+  pub some : 1 ≤ lowest
+  pub none : noneMissed e lowest n bs (numberedAt 65535 (suc n) (pagesAt (layoutOf e) b) x) ≡ true
 
 -- A page of level n from which pages may be merged.
 pub record MergePre (e P n : ℕ) (b : List ℕ) (x : Ref) (w key position lowest : ℕ) : Type 0 where

@@ -1,6 +1,5 @@
 // Merging below a page: figure 12 along the way of a key, from level 0 up.
 ghost use mathlib.Core.Path.{_≡_};
-ghost use mathlib.Core.Bool.{cond};
 ghost use Prim.Native.Nat.{suc, _*_, _<_};
 ghost use lib.Dec.{ltb};
 ghost use Rattle.index_table.specs.Layout.{layoutOf};
@@ -30,16 +29,6 @@ fn sparse(e: u8, n: u8) -> bool
     ensures { λ r. ⌜ r ≡ ltb (4 * n) e ⌝ }
 {
     4 * wide(n) < wide(e)
-}
-
-// The lowest level whose pages may have a page below them to join, where the page of level 0 that covers the key has n entries.
-pub fn lowest_level(e: u8, n: u8) -> u8
-    ensures { λ r. ⌜ r ≡ cond (ltb (4 * n) e) 1 2 ⌝ }
-{
-    if sparse(e, n) {
-        return 1;
-    }
-    2
 }
 
 // The entries of a page behind those of another, which is left of it; the page is free then.

@@ -1,7 +1,6 @@
 -- From the root's entry, with the key's first position and no depth before or after. Assumes nothing.
 use Rattle.table_delete.proofs.TakingOut.{take-level, take-remove, take-fits, take-finish, take-post}
-use mathlib.Core.Path.{refl}
-use mathlib.Core.Logic.{inl}
+use Rattle.tree_merge.proofs.MergeSteps.{covered-all}
 use native.Mathlib.Omega.{arith}
 use borrow.Author.Needs.{needs}
 use Rattle.table_delete.proofs.take_out.Statement.{statement}
@@ -20,16 +19,31 @@ remove-requires : tie.Need-remove-requires
 remove-requires c κs = take-remove (c .before .before .before .before .pre) (λ i. omega (arith, c .before .before .before .slice-known .given i)) _ _ (c .before .before .next-position .ensures) (c .before .pointer-to .ensures)
 
 page-of-requires : tie.Need-page-of-requires
-page-of-requires c κs = take-fits (c .before .before .before .before .before .before .before .pre) (c .before .before .before .before .before .next-position .ensures) (c .before .before .before .before .pointer-to .ensures) (c .before .before .remove .ensures)
+page-of-requires c κs =
+    let removed = c .before .before in
+    let pointed = removed .before .before in
+    let next = pointed .before in
+    take-fits (next .before .before .pre) (next .next-position .ensures) (pointed .pointer-to .ensures) (removed .remove .ensures)
 
 finish-requires : tie.Need-finish-requires
-finish-requires c κs = take-finish (c .before .before .before .before .before .before .before .before .before .pre) (c .before .before .before .before .before .before .before .next-position .ensures) (c .before .before .before .before .before .before .pointer-to .ensures) (c .before .before .before .before .remove .ensures) _ (c .before .page-of .ensures) _ (inl refl)
+finish-requires c κs =
+    let paged = c .before in
+    let removed = paged .before .before .before in
+    let pointed = removed .before .before in
+    let next = pointed .before in
+    take-finish (next .before .before .pre) (next .next-position .ensures) (pointed .pointer-to .ensures) (removed .remove .ensures) _ (paged .page-of .ensures) _ covered-all
 
 same-length : tie.Need-same-length
 same-length c = search needs
 
 returns : tie.Need-returns
-returns c = take-post (c .before .before .before .before .before .before .before .before .before .before .before .before .pre) (c .before .before .before .before .before .before .before .before .before .before .next-position .ensures) (c .before .before .before .before .before .before .before .before .before .pointer-to .ensures) (c .before .before .before .before .before .before .before .remove .ensures) _ (c .before .before .before .before .page-of .ensures) _ _ (c .before .before .finish .ensures)
+returns c =
+    let finished = c .before .before in
+    let paged = finished .before .before in
+    let removed = paged .before .before .before in
+    let pointed = removed .before .before in
+    let next = pointed .before in
+    take-post (next .before .before .pre) (next .next-position .ensures) (pointed .pointer-to .ensures) (removed .remove .ensures) _ (paged .page-of .ensures) _ _ (finished .finish .ensures)
 
 pub take-out-spec : {M : Type 1} → statement M
 take-out-spec =

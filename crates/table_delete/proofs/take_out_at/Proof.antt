@@ -1,6 +1,6 @@
 -- The page alone, the entry alone, or from the root down. Assumes nothing.
 use mathlib.Core.Path.{refl, _∙_}
-use mathlib.Core.Logic.{inl}
+use Rattle.tree_merge.proofs.MergeSteps.{covered-all}
 use native.Mathlib.Omega.{arith}
 use Rattle.table_delete.proofs.TakingAt.{take-near, near-quiet, near-within, near-finish, near-calm, take-blank, quiet-finish, quiet-taken, far-pre, far-post}
 use borrow.Author.Needs.{needs}
@@ -12,15 +12,12 @@ strike-near-requires c κs =
     let known = c .before in
     take-near _ (known .before .pre) (λ i. omega (arith, known .slice-known .given i))
 
-count-requires : tie.Need-count-requires
-count-requires c κs =
+lowest-level-requires : tie.Need-lowest-level-requires
+lowest-level-requires c κs =
     let tested = c .before in
     let struck = tested .before .before .before in
     let known = struck .before .before in
     near-within _ (known .before .pre) (λ i. omega (arith, known .slice-known .given i)) (struck .strike-near .ensures .done (tested .if1 .taken))
-
-lowest-level-requires : tie.Need-lowest-level-requires
-lowest-level-requires c κs = search needs
 
 same-length : tie.Need-same-length
 same-length c = search needs
@@ -28,31 +25,31 @@ same-length c = search needs
 returns : tie.Need-returns
 returns c =
     let lowest = c .before in
-    let counted = lowest .before in
-    let tested = counted .before .before in
+    let tested = lowest .before .before in
     let struck = tested .before .before .before in
     let known = struck .before .before in
-    near-calm _ (known .before .pre) (λ i. omega (arith, known .slice-known .given i)) (struck .strike-near .ensures .done (tested .if1 .taken)) (counted .count .ensures) (lowest .lowest-level .ensures) (c .if2 .taken)
+    near-calm _ (known .before .pre) (λ i. omega (arith, known .slice-known .given i)) (struck .strike-near .ensures .done (tested .if1 .taken)) (lowest .lowest-level .ensures) (c .if2 .taken)
 
 finish-requires : tie.Need-finish-requires
 finish-requires c κs =
     let lowest = c .before .before in
-    let counted = lowest .before in
-    let tested = counted .before .before in
+    let tested = lowest .before .before in
     let struck = tested .before .before .before in
     let known = struck .before .before in
-    near-finish _ (known .before .pre) (λ i. omega (arith, known .slice-known .given i)) (struck .strike-near .ensures .done (tested .if1 .taken)) (counted .count .ensures) (lowest .lowest-level .ensures)
+    near-finish _ (known .before .pre) (λ i. omega (arith, known .slice-known .given i)) (struck .strike-near .ensures .done (tested .if1 .taken)) (lowest .lowest-level .ensures)
 
 same-length-2 : tie.Need-same-length-2
 same-length-2 c = search needs
 
 returns-2 : tie.Need-returns-2
 returns-2 c =
-    let tested = c .before .before .before .before .before .before .before .before in
+    let finished = c .before .before in
+    let lowest = finished .before .before .before in
+    let tested = lowest .before .before in
     let struck = tested .before .before .before in
     let known = struck .before .before in
     let pre = known .before .pre in
-    quiet-taken _ (pre .take) (pre .begins) _ (near-quiet _ pre (λ i. omega (arith, known .slice-known .given i)) _ (struck .strike-near .ensures .done (tested .if1 .taken))) _ _ (c .before .before .finish .ensures)
+    quiet-taken _ (pre .take) (pre .begins) _ (near-quiet _ pre (λ i. omega (arith, known .slice-known .given i)) _ (struck .strike-near .ensures .done (tested .if1 .taken))) _ _ (finished .finish .ensures)
 
 next-position-requires : tie.Need-next-position-requires
 next-position-requires c κs =
@@ -74,7 +71,7 @@ finish-requires-2 c κs =
     let tested = next .before in
     let struck = tested .before .before .before in
     let same = struck .strike-near .ensures .none (tested .if1 .left) in
-    quiet-finish _ (far-pre same (struck .before .before .before .pre .take)) (next .next-position .ensures) _ (blank .blank .ensures .done (blanked .if3 .taken)) _ (inl refl)
+    quiet-finish _ (far-pre same (struck .before .before .before .pre .take)) (next .next-position .ensures) _ (blank .blank .ensures .done (blanked .if3 .taken)) _ covered-all
 
 same-length-3 : tie.Need-same-length-3
 same-length-3 c = search needs
@@ -113,7 +110,6 @@ take-out-at-spec =
     tie.close
     (tie.spec
     strike-near-requires
-    count-requires
     lowest-level-requires
     same-length
     returns

@@ -1,9 +1,12 @@
 -- A number for each of its own, one after the other. Assumes nothing.
 use borrow.Author.Needs.{needs}
 use native.Mathlib.Omega.{arith}
-use Rattle.table_search.proofs.LeafNumbers.{number-leaf}
+use Rattle.table_search.proofs.LeafNumbers.{leaf-numbered}
 use Rattle.table_search.proofs.leaf_number.Statement.{statement}
 use Rattle.table_search.proofs.leaf_number.Tie as tie
+
+one-if-requires : tie.Need-one-if-requires
+one-if-requires c κs = search needs
 
 mul-depths : tie.Need-mul-depths
 mul-depths c = search needs
@@ -44,13 +47,16 @@ add-result c = search needs
 returns : tie.Need-returns
 returns c =
     let wide = c .before in
-    let start = wide .before .before .before .before in
-    number-leaf (start .args .leaf) (start .pre) (omega (arith, wide .wide16 .ensures)) _ (omega (arith, wide .wide16 .ensures))
+    let flag = wide .before .before .before in
+    let start = flag .before in
+    let one = flag .one-if .ensures in
+    leaf-numbered (start .args .leaf) (start .pre) (omega (arith, wide .wide16 .ensures)) _ (one .0) (one .1) _ (omega (arith, wide .wide16 .ensures))
 
 pub leaf-number-spec : {M : Type 1} → statement M
 leaf-number-spec =
     tie.close
     (tie.spec
+    one-if-requires
     mul-depths
     add-depths
     mul-depths-2
