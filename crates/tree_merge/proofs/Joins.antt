@@ -1,7 +1,7 @@
 -- Entries j and j + 1 of a page become one, and their pages with them. Assumes nothing.
 use mathlib.Core.Path.{_≡_, refl, sym, ap, ap₂, _∙_, subst}
 use mathlib.Core.Bool.{Bool, false}
-use mathlib.Core.List.{List, [], _∷_, _++_, map-append, append-assoc}
+use mathlib.Core.List.{List, [], _∷_, _++_, map-append}
 use Prim.Native.Nat.{ℕ, zero, suc, _+_, _-_, _≤_, _<_}
 use native.Mathlib.Omega.{arith}
 use native.Mathlib.Numerals.{add-one}
@@ -33,9 +33,9 @@ use Rattle.tree_delete.specs.Rows.{around, PutPost, SettlePre, SettlePost, entr
 use Rattle.tree_delete.specs.Unwinding.{BackPre, Done}
 use Rattle.tree_delete.proofs.RowChanges.{entry-some}
 use Rattle.tree_delete.proofs.CalmRows.{kept-some}
+use Rattle.tree_delete.proofs.Frames.{kept-at, before-stays, after-stays}
 use Rattle.tree_delete.proofs.Sweeps.{row-owned, linked-fits, up-done}
 use Rattle.tree_merge.specs.Merges.{joinableAt, entryAt, PairPre, JoinPre, JoinPost, GatherPre, gathered}
-use Rattle.tree_merge.proofs.Middles.{mid-before, mid-after, kept-mid}
 use Rattle.tree_merge.proofs.Joining.{joinedTable, b₁, joined-kept, joined-number}
 
 abbrev head-of : {A : Type 0} → A → List A → A
@@ -122,21 +122,17 @@ module _ {e P n : ℕ} {b : List ℕ} {x : Ref} {j : ℕ} (pre : JoinPre e P n b
   parted : row ≡ front ++ u ∷ v ∷ rest
   parted = split-at row j (0, 0) (omega (arith, inside)) ∙ ap (λ (l : List Ref). front ++ u ∷ l) (drop-cons row (suc j) (0, 0) inside)
 
-  mid : front ++ (u ∷ v ∷ []) ++ rest ≡ row
-  mid = append-assoc front (u ∷ v ∷ []) rest ∙ sym parted
+  linked : All (Linked L P (suc n) b) (front ++ u ∷ v ∷ rest)
+  linked = rw parted at (back .linked .2)
 
-  linked : All (Linked L P (suc n) b) (front ++ (u ∷ v ∷ []) ++ rest)
-  linked = rw mid (back .linked .2)
+  own : Owned L b (metAll (suc n) pages (front ++ u ∷ v ∷ rest))
+  own = rw parted at (row-owned e P (suc n) b x back)
 
-  own : Owned L b (metAll (suc n) pages (front ++ (u ∷ v ∷ []) ++ rest))
-  own = rw mid (row-owned e P (suc n) b x back)
-
-  pair-linked : All (Linked L P (suc n) b) (u ∷ v ∷ [])
-  pair-linked = all-right (Linked L P (suc n) b) front (u ∷ v ∷ []) (all-left (Linked L P (suc n) b) (front ++ u ∷ v ∷ []) rest linked)
+  pair-linked : All (Linked L P (suc n) b) (u ∷ v ∷ rest)
+  pair-linked = all-right (Linked L P (suc n) b) front (u ∷ v ∷ rest) linked
 
   pair-own : Owned L b (metAll (suc n) pages (u ∷ v ∷ []))
-  pair-own q =
-      omega (arith, own q, sum-append (λ y. met (suc n) pages y q) (front ++ u ∷ v ∷ []) rest, sum-append (λ y. met (suc n) pages y q) front (u ∷ v ∷ []))
+  pair-own q = omega (arith, own q, sum-append (λ y. met (suc n) pages y q) front (u ∷ v ∷ rest))
 
   within-page : (p : ℕ) → p < P → Within L b p
   within-page p l = within-table L P p b (omega (arith, back .paged .table)) l
@@ -199,8 +195,8 @@ module _ {e P n : ℕ} {b : List ℕ} {x : Ref} {j : ℕ} (pre : JoinPre e P n b
 
   row-kept : Kept L P (suc n) b (metAll (suc n) pages row) table now
   row-kept =
-      subst (λ (l : List Ref). Kept L P (suc n) b (metAll (suc n) pages l) table now) mid
-      (rw (append-assoc front (z ∷ []) rest) at (kept-mid L P (suc n) b front (u ∷ v ∷ []) rest own linked table (z ∷ []) pair-kept))
+      subst (λ (l : List Ref). Kept L P (suc n) b (metAll (suc n) pages l) table now) (sym parted)
+      (kept-at L P (suc n) b front (u ∷ v ∷ []) rest own linked table (z ∷ []) pair-kept)
 
   abbrev numbers : List (Numbered (suc n))
   numbers =
@@ -209,9 +205,9 @@ module _ {e P n : ℕ} {b : List ℕ} {x : Ref} {j : ℕ} (pre : JoinPre e P n b
   row-numbers : numbersAt (suc n) (pagesAt L table) now ≡ numbers
   row-numbers =
       map-append (numberedAt 65535 (suc n) (pagesAt L table)) front (z ∷ rest)
-      ∙ ap₂ (λ (l m : List (Numbered (suc n))). l ++ m) (mid-before L P (suc n) b front (u ∷ v ∷ []) rest own linked table (z ∷ []) pair-kept .numbereds 65535)
+      ∙ ap₂ (λ (l m : List (Numbered (suc n))). l ++ m) (before-stays L P (suc n) b front (u ∷ v ∷ []) rest own linked table (z ∷ []) pair-kept .numbereds 65535)
       (ap₂ (λ (y : Numbered (suc n)) (m : List (Numbered (suc n))). y ∷ m) pair-number
-      (mid-after L P (suc n) b front (u ∷ v ∷ []) rest own linked table (z ∷ []) pair-kept .numbereds 65535))
+      (after-stays L P (suc n) b front (u ∷ v ∷ []) rest own linked table (z ∷ []) pair-kept .numbereds 65535))
 
   last-same : lastDepth depthOf 0 now ≡ x .0
   last-same =

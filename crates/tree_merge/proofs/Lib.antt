@@ -1,4 +1,3 @@
-pub mod Middles
 pub mod Joining
 pub mod Gathering
 pub mod Joins
