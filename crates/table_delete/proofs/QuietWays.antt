@@ -32,8 +32,8 @@ use Rattle.tree_delete.proofs.FoundPlaces.{found-parted, found-linked, found-do
 use Rattle.tree_delete.proofs.EntryStays.{row-same, entry-kept, front-stays, rest-stays}
 use Rattle.tree_delete.proofs.Removals.{remove-descend}
 use Rattle.tree_merge.specs.Merges.{coverSize}
-use Rattle.tree_merge.proofs.Besides.{number-size}
-use Rattle.tree_merge.proofs.MergeSteps.{cover-at}
+use Rattle.tree_merge.proofs.NeighbourLaws.{number-size}
+use Rattle.tree_merge.proofs.MergeLaws.{cover-at}
 use Rattle.table_delete.specs.Blanking.{Quiet}
 
 module _ {e P n : ℕ} {b : List ℕ} {x : Ref} {w key position τ : ℕ} (h : RemovePre e P (suc n) b x w key position) (s : Spot) (a : Stopped w key position τ (pagesAt (layoutOf e) b (x .1)) s) where

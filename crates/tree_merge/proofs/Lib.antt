@@ -1,6 +1,6 @@
-pub mod Joining
-pub mod Gathering
-pub mod Joins
-pub mod Besides
-pub mod Sides
-pub mod MergeSteps
+pub mod GatheredPages
+pub mod JoinLaws
+pub mod JoinedPages
+pub mod MergeLaws
+pub mod NeighbourLaws
+pub mod NeighbourTests

@@ -1,7 +1,7 @@
 -- Both rows, stored and freed. Assumes nothing.
 use native.Mathlib.Omega.{arith}
 use Rattle.index_write.proofs.LoadedRows.{entries-counted}
-use Rattle.tree_merge.proofs.Gathering.{gather-load, gather-store, gather-post}
+use Rattle.tree_merge.proofs.GatheredPages.{gather-load, gather-store, gather-post}
 use borrow.Author.Needs.{needs}
 use Rattle.tree_merge.proofs.gather.Statement.{statement}
 use Rattle.tree_merge.proofs.gather.Tie as tie

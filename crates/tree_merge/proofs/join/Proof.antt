@@ -1,7 +1,7 @@
 -- The two pages as one, then the parent's row. Assumes nothing.
 use mathlib.Core.Path.{_∙_}
 use native.Mathlib.Omega.{arith}
-use Rattle.tree_merge.proofs.Joins.{pair-within, pair-few, left-is, right-is, right-depth, join-load, join-gather, join-table, join-put, join-joined, join-entry, join-settle, join-post}
+use Rattle.tree_merge.proofs.JoinLaws.{pair-within, pair-few, left-is, right-is, right-depth, join-load, join-gather, join-table, join-put, join-joined, join-entry, join-settle, join-post}
 use borrow.Author.Needs.{needs}
 use Rattle.tree_merge.proofs.join.Statement.{statement}
 use Rattle.tree_merge.proofs.join.Tie as tie

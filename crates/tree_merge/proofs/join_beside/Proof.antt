@@ -1,7 +1,7 @@
 -- Assumes nothing.
 use mathlib.Core.Path.{_∙_, sym}
 use native.Mathlib.Omega.{arith}
-use Rattle.tree_merge.proofs.Sides.{place-within, place-few, below-within, both-calm, both-sparse, then-right, then-post}
+use Rattle.tree_merge.proofs.NeighbourTests.{place-within, place-few, below-within, both-calm, both-sparse, then-right, then-post}
 use borrow.Author.Tests.{not-true, not-false}
 use borrow.Author.Needs.{needs}
 use Rattle.tree_merge.proofs.join_beside.Statement.{statement}

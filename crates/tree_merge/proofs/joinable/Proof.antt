@@ -1,6 +1,6 @@
 -- The left page ends deeper, and both fit. Assumes nothing.
 use native.Mathlib.Omega.{arith}
-use Rattle.tree_merge.proofs.Joins.{pair-within, pair-few, left-is, left-depth, right-is, right-depth, child-within, child-counted, joinable-no, joinable-sum}
+use Rattle.tree_merge.proofs.JoinLaws.{pair-within, pair-few, left-is, left-depth, right-is, right-depth, child-within, child-counted, joinable-no, joinable-sum}
 use borrow.Author.Needs.{needs}
 use Rattle.tree_merge.proofs.joinable.Statement.{statement}
 use Rattle.tree_merge.proofs.joinable.Tie as tie

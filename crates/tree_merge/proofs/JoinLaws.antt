@@ -36,7 +36,7 @@ use Rattle.tree_delete.proofs.CalmRows.{kept-some}
 use Rattle.tree_delete.proofs.Frames.{kept-at, before-stays, after-stays}
 use Rattle.tree_delete.proofs.Sweeps.{row-owned, linked-fits, up-done}
 use Rattle.tree_merge.specs.Merges.{joinableAt, entryAt, PairPre, JoinPre, JoinPost, GatherPre, gathered}
-use Rattle.tree_merge.proofs.Joining.{joinedTable, b₁, joined-kept, joined-number}
+use Rattle.tree_merge.proofs.JoinedPages.{joinedTable, b₁, joined-kept, joined-number}
 
 abbrev head-of : {A : Type 0} → A → List A → A
 head-of d [] = d

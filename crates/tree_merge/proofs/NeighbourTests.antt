@@ -15,7 +15,7 @@ use Rattle.index_table.proofs.PageRows.{length-refs}
 use Rattle.table_search.proofs.Stops.{read-entry}
 use Rattle.tree_delete.specs.Keeping.{Linked}
 use Rattle.tree_merge.specs.Merges.{joinableAt, entryAt, PairPre, JoinPre, JoinPost, PlacePre, SparsePre, LeftShut, LeftPost, RightPre, BesidePost}
-use Rattle.tree_merge.proofs.Besides.{beside-calm, beside-left, beside-last, beside-none, beside-right}
+use Rattle.tree_merge.proofs.NeighbourLaws.{beside-calm, beside-left, beside-last, beside-none, beside-right}
 
 -- Pages that may be one fit.
 fits : (e : ℕ) (pages : Pages) (x y : Ref) → joinableAt e pages x y ≡ true → length (pages (x .1)) + length (pages (y .1)) ≤ e
