@@ -40,6 +40,10 @@ linked-row L P n b b′ row h g = each-linked L P n b b′ (linked-stays L P n b
 pub kept-none : (L : Layout) (P n : ℕ) (b : List ℕ) (row : List Ref) → All (Linked L P n b) row → Kept L P n b (metAll n (pagesAt L b) row) b row
 kept-none L P n b row s = record { long = refl; front = refl; pages = λ q. refl; same = λ q z. refl; cleared = λ q c. c; linked = s }
 
+-- So it is below one entry, which stays.
+pub kept-self : (L : Layout) (P n : ℕ) (b : List ℕ) (x : Ref) → Linked L P n b x → Kept L P n b (met n (pagesAt L b) x) b (x ∷ [])
+kept-self L P n b x s = record { long = refl; front = refl; pages = λ q. omega arith; same = λ q z. refl; cleared = λ q c. c; linked = (s, tt) }
+
 -- What is owned afterwards.
 pub kept-owned : {L : Layout} {P n : ℕ} {b : List ℕ} {old : ℕ → ℕ} {b′ : List ℕ} {row : List Ref} → Kept L P n b old b′ row → Owned L b old
     → Owned L b′ (metAll n (pagesAt L b′) row)
