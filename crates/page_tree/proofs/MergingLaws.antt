@@ -40,7 +40,7 @@ module _ {A : Type 0} (E : ℕ) (depthA size : A → ℕ) (glue : A → A → A)
     abbrev Kept : List A → List A → Type 0
     Kept xs ys = (c : ℕ) → Closed depthA c xs → All Good xs → Stays depthA Good c (length xs) ys
 
-    -- A row is closed by the depth alone of its first thing.
+    -- In a row that c closes, another thing of the same depth may stand first.
     replaced : (c : ℕ) (x x′ : A) (xs : List A) → depthA x′ ≡ depthA x → Closed depthA c (x ∷ xs) → Closed depthA c (x′ ∷ xs)
     replaced c x x′ [] e h = e ∙ h
     replaced c x x′ (y ∷ ys) e h = (omega (arith, h .0), h .1)
