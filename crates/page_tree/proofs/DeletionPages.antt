@@ -4,13 +4,15 @@ use mathlib.Core.List.{List, [], _∷_, _++_, map}
 use Prim.Native.Nat.{ℕ, zero, suc, _+_, _≤_}
 use native.Mathlib.Omega.{arith}
 use lib.Dec.{ltb}
+use Rattle.leaf_list.specs.Keys.{bits}
 use Rattle.leaf_list.specs.Entries.{Entry}
+use Rattle.leaf_list.specs.Search.{positions}
 use Rattle.page_tree.specs.declared.Unwind.{Unwind}
 use Rattle.page_tree.specs.Rows.{flats, sum}
 use Rattle.page_tree.specs.Tree.{Node, depth, leaves, pageCount, Tree, pagesOf}
 use Rattle.page_tree.specs.Walk.{rest}
 use Rattle.page_tree.specs.Merging.{mergePage}
-use Rattle.page_tree.specs.OffPages.{Left, Step, stepEntry, over, sweep, unlessEmpty, stepBelow, nextDepth, strike, strikeIn, deleteBelow, lower, rooted, deleteTree}
+use Rattle.page_tree.specs.OffPages.{Left, Step, stepEntry, over, sweep, unlessEmpty, stepBelow, nextDepth, strike, strikeIn, deleteBelow, lower, rooted, deleteTree, offTree}
 use Rattle.page_tree.proofs.ListLaws.{sum-append}
 use Rattle.page_tree.proofs.TreeLaws.{entries-pages}
 use Rattle.page_tree.proofs.MergingLaws.{mergePage-pages}
@@ -75,10 +77,14 @@ lower-pages (suc n) [] = omega arith
 lower-pages (suc n) (x ∷ []) = omega (arith, lower-pages n x)
 lower-pages (suc n) (x ∷ y ∷ ys) = omega arith
 
--- There are never more pages than before.
+-- There are never more pages than before,
 pub deleteTree-pages : (E : ℕ) (bs : List ℕ) (t : Tree) → pagesOf (deleteTree E bs t) ≤ pagesOf t
 deleteTree-pages E bs t = go (deleteBelow (suc (t .0)) 0 bs 0 (t .1) .0) (deleteBelow-pages (suc (t .0)) 0 bs 0 (t .1))
   where
     go : (left : List (Node (suc (t .0)))) → sum (pageCount (suc (t .0))) left ≤ pagesOf t → pagesOf (rooted (t .0) (map (mergePage E (t .0) bs) left)) ≤ pagesOf t
     go [] i = omega arith
     go (x ∷ xs) i = omega (arith, lower-pages (t .0) (mergePage E (t .0) bs x), mergePage-pages E (t .0) bs x)
+
+-- so never after an off.
+pub offTree-pages : (w E key : ℕ) (t : Tree) → pagesOf (offTree w E key t) ≤ pagesOf t
+offTree-pages w E key t = deleteTree-pages E (positions 0 (bits w key)) t

@@ -3,7 +3,9 @@ use mathlib.Core.Path.{_≡_, refl, ap, sym, _∙_}
 use mathlib.Core.List.{List, [], _∷_, append-nil, map}
 use Prim.Native.Nat.{ℕ, zero, suc}
 use native.Mathlib.Omega.{arith}
+use Rattle.leaf_list.specs.Keys.{bits}
 use Rattle.leaf_list.specs.Entries.{Entry}
+use Rattle.leaf_list.specs.Search.{positions}
 use Rattle.leaf_list.proofs.Positions.{Beyond, Rising}
 use Rattle.leaf_list.proofs.Depths.{Neighbours}
 use Rattle.page_tree.specs.declared.Unwind.{Unwind}
@@ -11,7 +13,7 @@ use Rattle.page_tree.specs.declared.Unwind.the-variants.{Idle, Give, Cle
 use Rattle.page_tree.specs.Rows.{flats}
 use Rattle.page_tree.specs.Tree.{Node, depth, leaves, Sound, Tree, leavesOf, SoundTree, RootRule}
 use Rattle.page_tree.specs.Merging.{mergePage}
-use Rattle.page_tree.specs.OffPages.{Left, stepBelow, unlessEmpty, strikeIn, deleteBelow, lower, rooted, deleteTree}
+use Rattle.page_tree.specs.OffPages.{Left, stepBelow, unlessEmpty, strikeIn, deleteBelow, lower, rooted, deleteTree, offTree}
 use Rattle.page_tree.proofs.DeletionLeaves.{flats-unlessEmpty, deleteFlat, deleteBelow-leaves}
 use Rattle.page_tree.proofs.DeletionSound.{Remains, deleteBelow-remains}
 use Rattle.page_tree.proofs.MergingLaws.{mergePage-leaves, mergePage-sound}
@@ -37,17 +39,30 @@ lower-leaves (suc n) [] = refl
 lower-leaves (suc n) (x ∷ []) = lower-leaves n x ∙ sym (append-nil (leaves (suc n) x))
 lower-leaves (suc n) (x ∷ y ∷ ys) = refl
 
--- The tree over what is left of the root's row, once it is merged.
-pub merged-leaves : (E n : ℕ) (bs : List ℕ) (row : List (Node n)) → leavesOf (rooted n (map (mergePage E n bs) (unlessEmpty row))) ≡ flats (leaves n) row
+-- The tree over what is left of the root's row has on level 0 what the row has.
+pub rooted-leaves : (n : ℕ) (row : List (Node n)) → leavesOf (rooted n (unlessEmpty row)) ≡ flats (leaves n) row
+rooted-leaves n [] = refl
+rooted-leaves n (x ∷ xs) = lower-leaves n (x ∷ xs)
+
+-- The tree over what is left of the root has the same level 0, whether it is merged or not.
+pub merged-leaves : (E n : ℕ) (bs : List ℕ) (left : List (Node (suc n))) → leavesOf (rooted n (map (mergePage E n bs) left)) ≡ leavesOf (rooted n left)
 merged-leaves E n bs [] = refl
-merged-leaves E n bs (x ∷ xs) = lower-leaves n (mergePage E n bs (x ∷ xs)) ∙ mergePage-leaves E n bs (x ∷ xs)
+merged-leaves E n bs (x ∷ xs) = lower-leaves n (mergePage E n bs x) ∙ mergePage-leaves E n bs x ∙ sym (lower-leaves n x)
+
+-- "The leaf list that an off leaves is what it would have been without merging" (02, request (i)).
+pub off-unmerged : (w E key : ℕ) (t : Tree)
+    → leavesOf (offTree w E key t) ≡ leavesOf (rooted (t .0) (deleteBelow (suc (t .0)) 0 (positions 0 (bits w key)) 0 (t .1) .0))
+off-unmerged w E key t =
+    let bs = positions 0 (bits w key) in
+    merged-leaves E (t .0) bs (deleteBelow (suc (t .0)) 0 bs 0 (t .1) .0)
 
 -- On level 0, figure 11 over the whole list.
 pub deleteTree-leaves : (E : ℕ) (bs : List ℕ) (t : Tree) → SoundTree E t → Rising bs → Beyond (depth (suc (t .0)) (t .1)) bs
     → leavesOf (deleteTree E bs t) ≡ deleteFlat 0 bs 0 (leavesOf t) .0
 deleteTree-leaves E bs t s a e =
     let row = strikeIn (depth (t .0)) (leaves (t .0)) (stepBelow (t .0)) (deleteBelow (t .0)) 0 bs 0 (t .1) .0 in
-    merged-leaves E (t .0) bs row
+    merged-leaves E (t .0) bs (unlessEmpty row)
+    ∙ rooted-leaves (t .0) row
     ∙ sym (flats-unlessEmpty (leaves (t .0)) row)
     ∙ sym (append-nil (flats (leaves (suc (t .0))) (unlessEmpty row)))
     ∙ ap (λ (r : Left Entry). r .0) (deleteBelow-leaves E (suc (t .0)) 0 bs 0 (t .1) [] s a e)
@@ -62,10 +77,11 @@ deleteTree-sound E bs t s a z e r =
     (rw z at (deleteBelow-remains E (suc (t .0)) 0 bs 0 (t .1) s r a (rw z e)))
   where
     go : (left : List (Node (suc (t .0)))) (w : Unwind) → Remains (depth (suc (t .0))) (Sound E (suc (t .0))) 0 0 1 left w
-        → SoundTree E (rooted (t .0) (map (mergePage E (t .0) bs) left)) × RootRule (rooted (t .0) (map (mergePage E (t .0) bs) left))
+        → (let t′ : Tree = rooted (t .0) (map (mergePage E (t .0) bs) left) in SoundTree E t′ × RootRule t′)
     go [] Idle q = absurd q
     go [] (Give d) q = absurd (omega (arith, q .1))
     go [] (Clear d) q = absurd (omega (arith, q .1))
     go (x ∷ xs) w q =
-        let m = mergePage-sound E (t .0) bs x (q .0 .good .0) in
-        (lower-sound E (t .0) (mergePage E (t .0) bs x) (m .sound), lower-root E (t .0) (mergePage E (t .0) bs x) (m .sound))
+        let page = mergePage E (t .0) bs x in
+        let s = mergePage-sound E (t .0) bs x (q .0 .good .0) .sound in
+        (lower-sound E (t .0) page s, lower-root E (t .0) page s)

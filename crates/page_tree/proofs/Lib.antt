@@ -19,6 +19,7 @@ pub mod DeletionLeaves
 pub mod DeletionSteps
 pub mod DeletionSound
 pub mod MergingRows
+pub mod MergingMaps
 pub mod MergingLaws
 pub mod MergingPlaces
 pub mod DeletionTrees

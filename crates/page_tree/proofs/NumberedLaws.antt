@@ -16,34 +16,12 @@ use Rattle.page_tree.specs.Cutting.{parts}
 use Rattle.page_tree.specs.Walk.{rest, walk}
 use Rattle.page_tree.specs.Finding.{Found, nowhere, findBelow, findIn}
 use Rattle.page_tree.specs.OnPages.{Replacement, newEntries, replaceIn, insertBelow, pagesBelow, grow, grown, insertTree, onTree}
-use Rattle.page_tree.specs.Merging.{Offered, joinable, withRight, withLeft, offer, beside, accept, settle, mergeIn, mergePage}
+use Rattle.page_tree.specs.Merging.{mergePage}
 use Rattle.page_tree.specs.OffPages.{Left, stepEntry, over, sweep, unlessEmpty, stepBelow, nextDepth, strike, strikeIn, deleteBelow, lower, rooted, offTree}
 use Rattle.page_tree.specs.Numbered.{Numbered, aside, numberedDepth, numberedLeaves, NumberedTree, treeAside, under, insertNumbered, growNumbered, grownNumbered, insertNumberedTree, onNumbered, keptUnder, stepNumbered, deleteNumbered, lowerNumbered, rootedNumbered, joinNumbered, mergeNumbered, offNumbered}
-use Rattle.page_tree.proofs.RowMaps.{parts-map}
+use Rattle.page_tree.proofs.RowMaps.{walk-map, parts-map}
 use Rattle.page_tree.proofs.RowLengths.{longestBelow}
-
--- Walks over a row of things and over what f makes of them, with what g makes of the answers.
-module _ {A B X Y : Type 0} (depth : B → ℕ) (f : A → B) (g : X → Y) (found : List ℕ → ℕ → A → List A → X) (passed : A → X → X) (none : X)
-    (found′ : List ℕ → ℕ → B → List B → Y) (passed′ : B → Y → Y) (none′ : Y)
-    (at-found : (bs : List ℕ) (τ : ℕ) (x : A) (xs : List A) → g (found bs τ x xs) ≡ found′ bs τ (f x) (map f xs))
-    (at-passed : (x : A) (r : X) → g (passed x r) ≡ passed′ (f x) (g r)) (at-none : g none ≡ none′) where
-  -- The two walks stop at the same place.
-  pub walk-map : (bs : List ℕ) (τ : ℕ) (xs : List A)
-      → g (walk (λ x. depth (f x)) found passed none bs τ xs) ≡ walk depth found′ passed′ none′ bs τ (map f xs)
-  walk-map bs τ [] = at-none
-  walk-map [] τ (x ∷ xs) = at-found [] τ x xs
-  walk-map (b ∷ bs) τ (x ∷ xs) = step (ltb (depth (f x)) b) (walk-map (rest (depth (f x)) b bs) (depth (f x)) xs)
-    where
-      r : X
-      r = walk (λ x. depth (f x)) found passed none (rest (depth (f x)) b bs) (depth (f x)) xs
-
-      r′ : Y
-      r′ = walk depth found′ passed′ none′ (rest (depth (f x)) b bs) (depth (f x)) (map f xs)
-
-      step : (t : Bool) → g r ≡ r′
-          → g (cond t (found (b ∷ bs) τ x xs) (passed x r)) ≡ cond t (found′ (b ∷ bs) τ (f x) (map f xs)) (passed′ (f x) r′)
-      step true ih = at-found (b ∷ bs) τ x xs
-      step false ih = at-passed x r ∙ ap (passed′ (f x)) ih
+use Rattle.page_tree.proofs.MergingMaps.{mergeIn-map}
 
 -- Walks that differ only in what is done at the place found, where At holds of what at finds there, give the same.
 module _ {A B : Type 0} (depth : A → ℕ) (found found′ : List ℕ → ℕ → A → List A → B) (passed : A → B → B) (none : B)
@@ -65,54 +43,6 @@ module _ {A B : Type 0} (depth : A → ℕ) (found found′ : List ℕ → ℕ �
           → cond t (found (b ∷ bs) τ x xs) (passed x (r found)) ≡ cond t (found′ (b ∷ bs) τ x xs) (passed x (r found′))
       step true ih q = same (b ∷ bs) τ x xs q
       step false ih q = ap (passed x) (ih q)
-
--- Merging a row of things and a row of what f makes of them.
-module _ {A B : Type 0} (E : ℕ) (depth : B → ℕ) (f : A → B) (size : A → ℕ) (size′ : B → ℕ) (glue : A → A → A) (glue′ : B → B → B)
-    (below : List ℕ → A → A) (below′ : List ℕ → B → B) (sizes : (x : A) → size x ≡ size′ (f x))
-    (glues : (x y : A) → f (glue x y) ≡ glue′ (f x) (f y)) (belows : (bs : List ℕ) (x : A) → f (below bs x) ≡ below′ bs (f x)) where
-  abbrev depthA : A → ℕ
-  depthA x = depth (f x)
-
-  withRight-map : (x : A) (xs : List A) → map f (withRight E depthA size glue x xs) ≡ withRight E depth size′ glue′ (f x) (map f xs)
-  withRight-map x [] = refl
-  withRight-map x (y ∷ ys) = rw (sizes x, sizes y) (go (joinable E depth size′ glue′ (f x) (f y)))
-    where
-      go : (t : Bool) → map f (cond t (glue x y ∷ ys) (x ∷ y ∷ ys)) ≡ cond t (glue′ (f x) (f y) ∷ map f ys) (f x ∷ f y ∷ map f ys)
-      go true = ap (λ (z : B). z ∷ map f ys) (glues x y)
-      go false = refl
-
-  withLeft-map : (z x : A) (xs : List A) → map f (withLeft E depthA size glue z x xs) ≡ withLeft E depth size′ glue′ (f z) (f x) (map f xs)
-  withLeft-map z x xs = rw (sizes z, sizes x) (go (joinable E depth size′ glue′ (f z) (f x)))
-    where
-      go : (t : Bool)
-          → map f (cond t (glue z x ∷ xs) (z ∷ withRight E depthA size glue x xs)) ≡ cond t (glue′ (f z) (f x) ∷ map f xs) (f z ∷ withRight E depth size′ glue′ (f x) (map f xs))
-      go true = ap (λ (y : B). y ∷ map f xs) (glues z x)
-      go false = ap (λ (l : List B). f z ∷ l) (withRight-map x xs)
-
-  beside-map : (z : A) (t : Bool) (xs : List A) → map f (beside E depthA size glue z t xs) ≡ beside E depth size′ glue′ (f z) t (map f xs)
-  beside-map z false xs = refl
-  beside-map z true [] = refl
-  beside-map z true (x ∷ xs) = withLeft-map z x xs
-
-  settle-map : (t : Bool) (xs : List A) → map f (settle E depthA size glue t xs) ≡ settle E depth size′ glue′ t (map f xs)
-  settle-map false xs = refl
-  settle-map true [] = refl
-  settle-map true (x ∷ xs) = withRight-map x xs
-
-  abbrev offeredMap : Offered A → Offered B
-  offeredMap r = (r .0, map f (r .1))
-
-  offer-map : (bs : List ℕ) (x : A) (xs : List A) → offeredMap (offer E depthA size glue (below bs x) xs) ≡ offer E depth size′ glue′ (below′ bs (f x)) (map f xs)
-  offer-map bs x xs = rw (sizes (below bs x), belows bs x)
-
-  pub mergeIn-map : (bs : List ℕ) (row : List A) → map f (mergeIn E depthA size glue below bs row) ≡ mergeIn E depth size′ glue′ below′ bs (map f row)
-  mergeIn-map bs row =
-      let r : Offered A = walk depthA (λ bs τ x xs. offer E depthA size glue (below bs x) xs) (accept E depthA size glue) (false, []) bs 0 row in
-      settle-map (r .0) (r .1)
-      ∙ ap (λ (o : Offered B). settle E depth size′ glue′ (o .0) (o .1))
-      (walk-map depth f offeredMap (λ bs τ x xs. offer E depthA size glue (below bs x) xs) (accept E depthA size glue) (false, [])
-      (λ bs τ x xs. offer E depth size′ glue′ (below′ bs x) xs) (accept E depth size′ glue′) (false, [])
-      (λ bs τ x xs. offer-map bs x xs) (λ x r. ap (λ (l : List B). (false, l)) (beside-map x (r .0) (r .1))) refl bs 0 row)
 
 -- What f gives of each thing of a row that h made.
 pub flats-map : {A B C : Type 0} (f : B → List C) (h : A → B) (xs : List A) → flats (λ x. f (h x)) xs ≡ flats f (map h xs)
@@ -246,14 +176,14 @@ pub rooted-aside : (n : ℕ) (xs : List (Numbered (suc n))) → treeAside (roote
 rooted-aside n [] = refl
 rooted-aside n (x ∷ xs) = lower-aside n (x .0) (x .1)
 
--- Merging, page numbers aside.
+-- A page is merged alike, page numbers aside.
 pub merge-aside : (E n : ℕ) (bs : List ℕ) (page : Numbered (suc n)) → aside (suc n) (mergeNumbered E n bs page) ≡ mergePage E n bs (aside (suc n) page)
 merge-aside E zero bs page = refl
 merge-aside E (suc n) bs page =
     mergeIn-map E (depth (suc n)) (aside (suc n)) (λ (x : Numbered (suc n)). length (x .1)) length (joinNumbered n) (λ x y. x ++ y) (mergeNumbered E n) (mergePage E n)
     (λ x. sym (length-map (x .1) (aside n))) (λ x y. map-append (aside n) (x .1) (y .1)) (merge-aside E n) bs (page .1)
 
--- What is left of the root, merged, page numbers aside.
+-- So are pages that are left of the root.
 merged-aside : (E n : ℕ) (bs : List ℕ) (xs : List (Numbered (suc n)))
     → map (aside (suc n)) (map (mergeNumbered E n bs) xs) ≡ map (mergePage E n bs) (map (aside (suc n)) xs)
 merged-aside E n bs [] = refl

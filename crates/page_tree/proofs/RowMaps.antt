@@ -4,14 +4,37 @@ use mathlib.Core.Bool.{Bool, true, false, cond}
 use mathlib.Core.List.{List, [], _∷_, _++_, map, map-append}
 use Prim.Native.Nat.{ℕ, zero, suc}
 use native.Mathlib.Omega.{arith}
-use lib.Dec.{leb}
+use lib.Dec.{leb, ltb}
 use lib.ListN.{length, length-map}
 use Rattle.page_tree.specs.Rows.{All, Closed, lastDepth}
-use Rattle.page_tree.specs.Walk.{rest}
+use Rattle.page_tree.specs.Walk.{rest, walk}
 use Rattle.page_tree.specs.Cutting.{split, cut, parts}
 use Rattle.page_tree.proofs.ListLaws.{all-left, all-right}
 use Rattle.page_tree.proofs.Splitting.{split-join}
 use Rattle.page_tree.proofs.WalkPlaces.{positionsAfter, Passes}
+
+-- Walks over a row of things and over what f makes of them, with what g makes of the answers.
+module _ {A B X Y : Type 0} (depth : B → ℕ) (f : A → B) (g : X → Y) (found : List ℕ → ℕ → A → List A → X) (passed : A → X → X) (none : X)
+    (found′ : List ℕ → ℕ → B → List B → Y) (passed′ : B → Y → Y) (none′ : Y)
+    (at-found : (bs : List ℕ) (τ : ℕ) (x : A) (xs : List A) → g (found bs τ x xs) ≡ found′ bs τ (f x) (map f xs))
+    (at-passed : (x : A) (r : X) → g (passed x r) ≡ passed′ (f x) (g r)) (at-none : g none ≡ none′) where
+  -- The two walks stop at the same place.
+  pub walk-map : (bs : List ℕ) (τ : ℕ) (xs : List A)
+      → g (walk (λ x. depth (f x)) found passed none bs τ xs) ≡ walk depth found′ passed′ none′ bs τ (map f xs)
+  walk-map bs τ [] = at-none
+  walk-map [] τ (x ∷ xs) = at-found [] τ x xs
+  walk-map (b ∷ bs) τ (x ∷ xs) = step (ltb (depth (f x)) b) (walk-map (rest (depth (f x)) b bs) (depth (f x)) xs)
+    where
+      r : X
+      r = walk (λ x. depth (f x)) found passed none (rest (depth (f x)) b bs) (depth (f x)) xs
+
+      r′ : Y
+      r′ = walk depth found′ passed′ none′ (rest (depth (f x)) b bs) (depth (f x)) (map f xs)
+
+      step : (t : Bool) → g r ≡ r′
+          → g (cond t (found (b ∷ bs) τ x xs) (passed x r)) ≡ cond t (found′ (b ∷ bs) τ (f x) (map f xs)) (passed′ (f x) r′)
+      step true ih = at-found (b ∷ bs) τ x xs
+      step false ih = at-passed x r ∙ ap (passed′ (f x)) ih
 
 module _ {A B : Type 0} (depth : A → ℕ) (depth′ : B → ℕ) (f : A → B) where
   -- The things of the row have the same depth as what f makes of them.

@@ -35,8 +35,8 @@ use Rattle.tree_delete.proofs.FoundPlaces.{found-parted, found-linked, found-do
 use Rattle.tree_delete.proofs.EntryStays.{row-same, entry-kept, front-stays, rest-stays}
 use Rattle.tree_delete.proofs.Removals.{remove-descend}
 use Rattle.tree_merge.specs.Merges.{missed, noneMissed}
-use Rattle.tree_merge.proofs.Besides.{number-size}
-use Rattle.tree_merge.proofs.MergeSteps.{missed-at}
+use Rattle.tree_merge.proofs.NeighbourLaws.{number-size}
+use Rattle.tree_merge.proofs.MergeLaws.{missed-at}
 use Rattle.table_delete.specs.Blanking.{Quiet}
 use Rattle.table_delete.specs.Taking.{lowestLevel}
 

@@ -26,7 +26,7 @@ use Rattle.page_delete.specs.OnePage.{NearPre, StruckNear}
 use Rattle.entry_delete.specs.declared.Remnant.{Remnant}
 use Rattle.tree_delete.specs.Removing.{RemovePre, RemovePost}
 use Rattle.tree_merge.specs.Merges.{noneMissed, Covered}
-use Rattle.tree_merge.proofs.MergeSteps.{covered-all, merge-low}
+use Rattle.tree_merge.proofs.MergeLaws.{covered-all, merge-low}
 use Rattle.table_delete.specs.Taking.{lowestLevel, LowerPre, LowerPost, FinishPre, FinishPost, TakePre, TakeAtPre, TakePost}
 use Rattle.table_delete.specs.Blanking.{Quiet, BlankPre}
 use Rattle.table_delete.proofs.QuietWays.{LeafPage, way-page, way-quiet, way-row, LowestKnown, lowest-known, way-none}

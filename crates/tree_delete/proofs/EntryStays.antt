@@ -1,6 +1,6 @@
 -- What lies below the entry found changes, and the entry stays: so do its page and the entry of its page. Assumes nothing.
-use mathlib.Core.Path.{_≡_, sym, ap, subst, _∙_}
-use mathlib.Core.List.{List, [], _∷_, _++_, append-assoc}
+use mathlib.Core.Path.{_≡_, sym, ap, subst}
+use mathlib.Core.List.{List, [], _∷_, _++_}
 use Prim.Native.Nat.{ℕ, suc, _+_}
 use native.Mathlib.Omega.{arith}
 use lib.ListN.{getD, take, drop}
@@ -14,7 +14,7 @@ use Rattle.table_search.specs.declared.Spot.{Spot}
 use Rattle.table_search.specs.Places.{Stopped}
 use Rattle.tree_delete.specs.Keeping.{Linked, Kept}
 use Rattle.tree_delete.specs.Removing.{RemovePre}
-use Rattle.tree_delete.proofs.Frames.{kept-at, before-stays, after-stays}
+use Rattle.tree_delete.proofs.Frames.{kept-one, kept-at, before-stays, after-stays}
 use Rattle.tree_delete.proofs.SweepTurns.{met-mid}
 use Rattle.tree_delete.proofs.FoundPlaces.{found-parted, found-linked, found-owned}
 
@@ -67,8 +67,8 @@ module _ {e P n : ℕ} {b : List ℕ} {x : Ref} {w key position τ : ℕ} (h : R
 
     row-kept : Kept L P n b (metAll n pages (front ++ y ∷ rest)) b′ row
     row-kept =
-        subst (λ (l : List Ref). Kept L P n b (metAll n pages (front ++ y ∷ rest)) b′ l) (append-assoc front (y ∷ []) rest ∙ sym parted)
-        (kept-at L P n b front y rest owned linked b′ (y ∷ []) k)
+        subst (λ (l : List Ref). Kept L P n b (metAll n pages (front ++ y ∷ rest)) b′ l) (sym parted)
+        (kept-at L P n b front (y ∷ []) rest owned linked b′ (y ∷ []) (kept-one y k))
 
     met-now : (p : ℕ) → metAll (suc n) pages′ (x ∷ []) p ≡ same (x .1) p + metAll n pages′ row p
     unfolding met
@@ -94,8 +94,8 @@ module _ {e P n : ℕ} {b : List ℕ} {x : Ref} {w key position τ : ℕ} (h : R
 
     -- What is read before the entry found,
     pub front-stays : UnchangedRow (layoutOf e) n b b′ (take (s .at) (pagesAt (layoutOf e) b (x .1)))
-    front-stays = before-stays L P n b front y rest owned linked b′ (y ∷ []) k
+    front-stays = before-stays L P n b front (y ∷ []) rest owned linked b′ (y ∷ []) (kept-one y k)
 
     -- and after it.
     pub rest-stays : UnchangedRow (layoutOf e) n b b′ (drop (suc (s .at)) (pagesAt (layoutOf e) b (x .1)))
-    rest-stays = after-stays L P n b front y rest owned linked b′ (y ∷ []) k
+    rest-stays = after-stays L P n b front (y ∷ []) rest owned linked b′ (y ∷ []) (kept-one y k)

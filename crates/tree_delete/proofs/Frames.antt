@@ -40,6 +40,10 @@ linked-row L P n b b′ row h g = each-linked L P n b b′ (linked-stays L P n b
 pub kept-none : (L : Layout) (P n : ℕ) (b : List ℕ) (row : List Ref) → All (Linked L P n b) row → Kept L P n b (metAll n (pagesAt L b) row) b row
 kept-none L P n b row s = record { long = refl; front = refl; pages = λ q. refl; same = λ q z. refl; cleared = λ q c. c; linked = s }
 
+-- So it is below one entry, which stays.
+pub kept-self : (L : Layout) (P n : ℕ) (b : List ℕ) (x : Ref) → Linked L P n b x → Kept L P n b (met n (pagesAt L b) x) b (x ∷ [])
+kept-self L P n b x s = record { long = refl; front = refl; pages = λ q. omega arith; same = λ q z. refl; cleared = λ q c. c; linked = (s, tt) }
+
 -- What is owned afterwards.
 pub kept-owned : {L : Layout} {P n : ℕ} {b : List ℕ} {old : ℕ → ℕ} {b′ : List ℕ} {row : List Ref} → Kept L P n b old b′ row → Owned L b old
     → Owned L b′ (metAll n (pagesAt L b′) row)
@@ -60,37 +64,45 @@ kept-then {L} {P} {n} {b} {old} {b₁} {ys} {b₂} {ws} h g = record {
   linked = g .linked;
 }
 
--- In a row, the entry x is changed; those before it and those after it stay.
-module _ (L : Layout) (P n : ℕ) (b : List ℕ) (before : List Ref) (x : Ref) (after : List Ref) (own : Owned L b (metAll n (pagesAt L b) (before ++ x ∷ after)))
-    (linked : All (Linked L P n b) (before ++ x ∷ after)) (b′ : List ℕ) (row : List Ref) (h : Kept L P n b (met n (pagesAt L b) x) b′ row) where
-  parted : (q : ℕ) → metAll n (pagesAt L b) (before ++ x ∷ after) q ≡ metAll n (pagesAt L b) before q + met n (pagesAt L b) x q + metAll n (pagesAt L b) after q
-  parted q = sum-append (λ y. met n (pagesAt L b) y q) before (x ∷ after) ∙ omega arith
+-- What stands for an entry stands for the row of it alone.
+pub kept-one : {L : Layout} {P n : ℕ} {b b′ : List ℕ} {row : List Ref} (x : Ref) → Kept L P n b (met n (pagesAt L b) x) b′ row
+    → Kept L P n b (metAll n (pagesAt L b) (x ∷ [])) b′ row
+kept-one x h = record { long = h .long; front = h .front; pages = λ q. omega (arith, h .pages q); same = λ q z. h .same q (omega arith); cleared = h .cleared; linked = h .linked }
 
-  keeps-before : Keeps L b b′ (metAll n (pagesAt L b) before)
-  keeps-before q k = h .same q (omega (arith, own q, parted q))
+-- In a row, the entries mid are changed; those before them and those after them stay.
+module _ (L : Layout) (P n : ℕ) (b : List ℕ) (before mid after : List Ref) (own : Owned L b (metAll n (pagesAt L b) (before ++ (mid ++ after))))
+    (linked : All (Linked L P n b) (before ++ (mid ++ after))) (b′ : List ℕ) (row : List Ref) (h : Kept L P n b (metAll n (pagesAt L b) mid) b′ row) where
+  abbrev metIn : List ℕ → List Ref → ℕ → ℕ
+  metIn t xs q = metAll n (pagesAt L t) xs q
 
-  keeps-after : Keeps L b b′ (metAll n (pagesAt L b) after)
-  keeps-after q k = h .same q (omega (arith, own q, parted q))
+  -- How often a page is met in a row of three parts.
+  parted : (t : List ℕ) (xs ys zs : List Ref) (q : ℕ) → metIn t (xs ++ (ys ++ zs)) q ≡ metIn t xs q + metIn t ys q + metIn t zs q
+  parted t xs ys zs q = let f : Ref → ℕ = λ y. met n (pagesAt L t) y q in omega (arith, sum-append f xs (ys ++ zs), sum-append f ys zs)
 
-  -- What is read below an entry that is not changed stays.
+  keeps-before : Keeps L b b′ (metIn b before)
+  keeps-before q k = h .same q (omega (arith, own q, parted b before mid after q))
+
+  keeps-after : Keeps L b b′ (metIn b after)
+  keeps-after q k = h .same q (omega (arith, own q, parted b before mid after q))
+
+  -- What is read below the entries before stays.
   pub before-stays : UnchangedRow L n b b′ before
   before-stays = unchanged-row L b b′ n before keeps-before
 
-  -- So does what stands after it.
+  -- So does what is read below those after.
   pub after-stays : UnchangedRow L n b b′ after
   after-stays = unchanged-row L b b′ n after keeps-after
 
-  -- The row with what stands in the place of x.
-  pub kept-at : Kept L P n b (metAll n (pagesAt L b) (before ++ x ∷ after)) b′ (before ++ row ++ after)
+  -- The whole row is changed to what stands in the place of mid, between the same entries.
+  pub kept-at : Kept L P n b (metAll n (pagesAt L b) (before ++ (mid ++ after))) b′ (before ++ (row ++ after))
   kept-at = record {
     long = h .long;
     front = h .front;
-    pages = λ q.
-        omega (arith, parted q, h .pages q, sum-append (λ y. met n (pagesAt L b′) y q) (before ++ row) after, sum-append (λ y. met n (pagesAt L b′) y q) before row, before-stays .meets q, after-stays .meets q);
-    same = λ q z. h .same q (omega (arith, parted q));
+    pages = λ q. omega (arith, parted b before mid after q, parted b′ before row after q, h .pages q, before-stays .meets q, after-stays .meets q);
+    same = λ q z. h .same q (omega (arith, parted b before mid after q));
     cleared = h .cleared;
     linked =
-        all-append (Linked L P n b′) (before ++ row) after
-        (all-append (Linked L P n b′) before row (linked-row L P n b b′ before keeps-before (all-left (Linked L P n b) before (x ∷ after) linked)) (h .linked))
-        (linked-row L P n b b′ after keeps-after (all-right (Linked L P n b) before (x ∷ after) linked .1));
+        let both = all-right (Linked L P n b) before (mid ++ after) linked in
+        all-append (Linked L P n b′) before (row ++ after) (linked-row L P n b b′ before keeps-before (all-left (Linked L P n b) before (mid ++ after) linked))
+        (all-append (Linked L P n b′) row after (h .linked) (linked-row L P n b b′ after keeps-after (all-right (Linked L P n b) mid after both)));
   }

@@ -1,7 +1,7 @@
 -- Removal below an entry, rank by rank. Assumes nothing.
 use mathlib.Core.Path.{_≡_, sym, ap, ap₂, _∙_}
 use mathlib.Core.Option.{none}
-use mathlib.Core.List.{List, _∷_, _++_, append-assoc, map-append}
+use mathlib.Core.List.{List, [], _∷_, _++_, map-append}
 use Prim.Native.Nat.{ℕ, zero, suc, _+_, _≤_, _<_}
 use native.Mathlib.Omega.{arith}
 use native.Mathlib.Numerals.{add-one}
@@ -27,7 +27,7 @@ use Rattle.entry_delete.specs.Entries.{parts, Turned}
 use Rattle.tree_delete.specs.Rows.{around, PutPost, SettlePost}
 use Rattle.tree_delete.specs.Unwinding.{SweepPre, sweepAt, SweepPost}
 use Rattle.tree_delete.specs.Removing.{followingAt, AfterPre, RemovePre, LocatePost, RemovePost}
-use Rattle.tree_delete.proofs.Frames.{kept-owned, kept-then, kept-at, before-stays, after-stays}
+use Rattle.tree_delete.proofs.Frames.{kept-owned, kept-then, kept-one, kept-at, before-stays, after-stays}
 use Rattle.tree_delete.proofs.Sweeps.{leaf-done, up-done}
 use Rattle.tree_delete.proofs.SweepTurns.{paged-then}
 use Rattle.tree_delete.proofs.FoundPlaces.{found-parted, found-linked, found-owned, found-strike}
@@ -125,7 +125,7 @@ module _ {e P n : ℕ} {b : List ℕ} {x : Ref} {w key position τ ν : ℕ} {l 
     now-is = ap₂ (λ (s t : List Ref). s ++ t) front-kept right-is
 
     one-kept : Kept L P n b (metAll n pages (front ++ y ∷ rest)) b₁ (around (slot .row) i (slot .at))
-    one-kept = rw now-is (rw (append-assoc front (parts r) rest) at (kept-at L P n b front y rest owned linked b₁ (parts r) (g .kept)))
+    one-kept = rw now-is (kept-at L P n b front (y ∷ []) rest owned linked b₁ (parts r) (kept-one y (g .kept)))
 
     -- The entries before it are to be swept.
     pub found-sweep : SweepPre e P n b₁ (slot .row) i (slot .at)
@@ -140,10 +140,10 @@ module _ {e P n : ℕ} {b : List ℕ} {x : Ref} {w key position τ ν : ℕ} {l 
     }
 
     fronts : UnchangedRow L n b b₁ front
-    fronts = before-stays L P n b front y rest owned linked b₁ (parts r) (g .kept)
+    fronts = before-stays L P n b front (y ∷ []) rest owned linked b₁ (parts r) (kept-one y (g .kept))
 
     rests : UnchangedRow L n b b₁ rest
-    rests = after-stays L P n b front y rest owned linked b₁ (parts r) (g .kept)
+    rests = after-stays L P n b front (y ∷ []) rest owned linked b₁ (parts r) (kept-one y (g .kept))
 
     swept-is : sweepAt e n b₁ (slot .row) i (slot .at) (r .state) ≡ whole
     swept-is =

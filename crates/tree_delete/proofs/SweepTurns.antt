@@ -25,7 +25,7 @@ use Rattle.entry_delete.specs.Entries.{parts}
 use Rattle.tree_delete.specs.Rows.{around, PutPost}
 use Rattle.tree_delete.specs.Unwinding.{BackPre, BackPost, SweepPre, sweepAt, SweepPost}
 use Rattle.tree_delete.proofs.CalmRows.{idle-row}
-use Rattle.tree_delete.proofs.Frames.{kept-none, kept-owned, kept-then, kept-at, before-stays, after-stays}
+use Rattle.tree_delete.proofs.Frames.{kept-none, kept-owned, kept-then, kept-one, kept-at, before-stays, after-stays}
 
 -- ---- lists
 
@@ -159,13 +159,13 @@ module _ {e P n : ℕ} {b₀ : List ℕ} {row₀ : Row} {i₀ w₀ : ℕ} {s₀ 
       now-is = ap₂ (λ (l m : List Ref). l ++ m) front-kept (put .right)
 
       one-kept : Kept L P n b (metAll n (pagesAt L b) (around row i w)) b′ (around (slot .row) (i - 1) (slot .at))
-      one-kept = rw (around-is, now-is) (rw (append-assoc front (parts r) after) at (kept-at L P n b front y after owned′ linked′ b′ (parts r) (g .kept)))
+      one-kept = rw (around-is, now-is) (kept-at L P n b front (y ∷ []) after owned′ linked′ b′ (parts r) (kept-one y (g .kept)))
 
       fronts : UnchangedRow L n b b′ front
-      fronts = before-stays L P n b front y after owned′ linked′ b′ (parts r) (g .kept)
+      fronts = before-stays L P n b front (y ∷ []) after owned′ linked′ b′ (parts r) (kept-one y (g .kept))
 
       afters : UnchangedRow L n b b′ after
-      afters = after-stays L P n b front y after owned′ linked′ b′ (parts r) (g .kept)
+      afters = after-stays L P n b front (y ∷ []) after owned′ linked′ b′ (parts r) (kept-one y (g .kept))
 
       turned : sweepAt e n b′ (slot .row) (i - 1) (slot .at) (r .state) ≡ sweepAt e n b row i w s
       turned =

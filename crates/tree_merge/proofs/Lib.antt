@@ -1,7 +1,8 @@
-pub mod Middles
-pub mod Joining
-pub mod Gathering
-pub mod Joins
-pub mod Besides
-pub mod Sides
-pub mod MergeSteps
+pub mod EntryReads
+pub mod GatheredPages
+pub mod JoinLaws
+pub mod JoinedPages
+pub mod MergeLaws
+pub mod NeighbourLaws
+pub mod NeighbourTests
+pub mod PairLaws

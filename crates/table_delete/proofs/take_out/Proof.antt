@@ -1,6 +1,6 @@
 -- From the root's entry, with the key's first position and no depth before or after. Assumes nothing.
 use Rattle.table_delete.proofs.TakingOut.{take-level, take-remove, take-fits, take-finish, take-post}
-use Rattle.tree_merge.proofs.MergeSteps.{covered-all}
+use Rattle.tree_merge.proofs.MergeLaws.{covered-all}
 use native.Mathlib.Omega.{arith}
 use borrow.Author.Needs.{needs}
 use Rattle.table_delete.proofs.take_out.Statement.{statement}

@@ -1,6 +1,6 @@
 -- The page alone, the entry alone, or from the root down. Assumes nothing.
 use mathlib.Core.Path.{refl, _∙_}
-use Rattle.tree_merge.proofs.MergeSteps.{covered-all}
+use Rattle.tree_merge.proofs.MergeLaws.{covered-all}
 use native.Mathlib.Omega.{arith}
 use Rattle.table_delete.proofs.TakingAt.{take-near, near-quiet, near-within, near-finish, near-calm, take-blank, quiet-finish, quiet-taken, far-pre, far-post}
 use borrow.Author.Needs.{needs}

@@ -1,6 +1,6 @@
 -- Level by level: the page is searched, what lies below the entry found is merged, and then the entry's neighbours are looked at. Assumes nothing.
 use native.Mathlib.Omega.{arith}
-use Rattle.tree_merge.proofs.MergeSteps.{merge-low, merge-above, merge-seek, merge-read, merge-down, merge-beside, merge-up}
+use Rattle.tree_merge.proofs.MergeLaws.{merge-low, merge-above, merge-seek, merge-read, merge-down, merge-beside, merge-up}
 use borrow.Author.Needs.{needs}
 use Prim.Native.Nat.{ℕ, _<_}
 use borrow.Fn.Kinds.{In}

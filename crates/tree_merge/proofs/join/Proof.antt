@@ -1,80 +1,107 @@
--- The two pages as one, then the parent's row. Assumes nothing.
+-- The two pages are made one, and the page's row is stored with the joined page's entry in the place of theirs. Assumes nothing.
 use mathlib.Core.Path.{_∙_}
 use native.Mathlib.Omega.{arith}
-use Rattle.tree_merge.proofs.Joins.{pair-within, pair-few, left-is, right-is, right-depth, join-load, join-gather, join-table, join-put, join-joined, join-entry, join-settle, join-post}
 use borrow.Author.Needs.{needs}
+use Rattle.tree_merge.proofs.PairLaws.{pair-within, pair-few, left-page, right-page, right-depth}
+use Rattle.tree_merge.proofs.JoinLaws.{join-load, join-gather, join-table, join-put, join-joined, join-entry, join-settle, join-post}
 use Rattle.tree_merge.proofs.join.Statement.{statement}
 use Rattle.tree_merge.proofs.join.Tie as tie
 
--- src/lib.rt:65:9
 child-requires : tie.Need-child-requires
-child-requires c κs = let pre = c .before .before .pre .0 in (pair-within (pre .pair), omega (arith, pair-few (pre .pair)))
+child-requires c κs = let pair = c .before .before .pre .0 .pair in (pair-within pair, omega (arith, pair-few pair))
 
--- src/lib.rt:66:39
 add-child : tie.Need-add-child
 add-child c = search needs
 
--- src/lib.rt:66:9
 child-requires-2 : tie.Need-child-requires-2
-child-requires-2 c κs = let pre = c .before .before .before .before .pre .0 in (pair-within (pre .pair), omega (arith, pair-few (pre .pair)))
+child-requires-2 c κs = let pair = c .before .before .before .before .pre .0 .pair in (pair-within pair, omega (arith, pair-few pair))
 
--- src/lib.rt:67:35
 add-depth : tie.Need-add-depth
 add-depth c = search needs
 
--- src/lib.rt:67:9
 depth-requires : tie.Need-depth-requires
-depth-requires c κs = let pre = c .before .before .before .before .before .before .pre .0 in (pair-within (pre .pair), omega (arith, pair-few (pre .pair)))
+depth-requires c κs =
+    let left = c .before .before .before in
+    let pair = left .before .before .before .pre .0 .pair in
+    (pair-within pair, omega (arith, pair-few pair))
 
--- src/lib.rt:68:9
 load-page-requires : tie.Need-load-page-requires
-load-page-requires c κs = join-load (c .before .before .before .before .before .before .before .before .pre .0)
+load-page-requires c κs =
+    let left = c .before .before .before .before .before in
+    join-load (left .before .before .before .pre .0)
 
--- src/lib.rt:69:5
 gather-requires : tie.Need-gather-requires
 gather-requires c κs =
-    let pre = c .before .before .before .before .before .before .before .before .before .before .pre .0 in
-    join-gather pre _ _ (left-is (pre .pair) (c .before .before .before .before .before .before .before .child .ensures)) (right-is (pre .pair) (c .before .before .before .before .before .child2 .ensures))
+    let right = c .before .before .before .before .before in
+    let left = right .before .before in
+    let pre = left .before .before .before .pre .0 in
+    join-gather pre _ _ (left-page (pre .pair) (left .child .ensures)) (right-page (pre .pair) (right .child2 .ensures))
 
--- src/lib.rt:73:18
 pointer-to-requires : tie.Need-pointer-to-requires
 pointer-to-requires c κs = search needs
 
--- src/lib.rt:76:25
 add-put : tie.Need-add-put
 add-put c = search needs
 
--- src/lib.rt:76:9
 put-requires : tie.Need-put-requires
-put-requires c κs = let start = c .before .before .before .before .before .before .before .before .before .before .before .before .before .before in join-put (start .pre .0) (c .before .before .before .before .before .load-page .ensures) (omega (arith, start .fits .e))
+put-requires c κs =
+    let loaded = c .before .before .before .before .before in
+    let right = loaded .before .before .before .before in
+    let start = right .before .before .before .before .before in
+    join-put (start .pre .0) (loaded .load-page .ensures) (omega (arith, start .fits .e))
 
--- src/lib.rt:78:9
 joined-requires : tie.Need-joined-requires
-joined-requires c κs = let start = c .before .before .before .before .before .before .before .before .before .before .before .before .before .before .before in join-joined (start .pre .0) (c .before .before .before .before .before .before .load-page .ensures) (omega (arith, start .fits .e)) (c .put .ensures)
+joined-requires c κs =
+    let pointed = c .before in
+    let loaded = pointed .before .before .before .before .before in
+    let right = loaded .before .before .before .before in
+    let start = right .before .before .before .before .before in
+    join-joined (start .pre .0) (loaded .load-page .ensures) (omega (arith, start .fits .e)) (c .put .ensures)
 
--- src/lib.rt:83:32
 add-settle : tie.Need-add-settle
-add-settle c = omega (arith, c .before .before .before .before .before .before .before .before .before .before .before .before .before .before .before .before .before .pre .1)
+add-settle c =
+    let pointed = c .before .before .before in
+    let loaded = pointed .before .before .before .before .before in
+    let right = loaded .before .before .before .before in
+    let start = right .before .before .before .before .before in
+    omega (arith, start .pre .1)
 
--- src/lib.rt:83:9
 settle-requires : tie.Need-settle-requires
 settle-requires c κs =
-    let pre = c .before .before .before .before .before .before .before .before .before .before .before .before .before .before .before .before .before .pre .0 in
-    let left = left-is (pre .pair) (c .before .before .before .before .before .before .before .before .before .before .before .before .before .before .child .ensures) in
-    join-settle pre _ (c .before .before .before .before .before .before .before .before .load-page .ensures) _ (join-entry pre (right-depth (pre .pair) (c .before .before .before .before .before .before .before .before .before .before .depth .ensures)) (c .before .before .before .pointer-to .ensures ∙ left)) _ (c .before .before .put .ensures) _ (c .before .joined .ensures)
-    _ (join-table pre (c .before .before .before .before .before .before .gather .ensures) left (right-is (pre .pair) (c .before .before .before .before .before .before .before .before .before .before .before .before .child2 .ensures)))
+    let joined = c .before in
+    let put = joined .before in
+    let pointed = put .before in
+    let gathered = pointed .before .before .before in
+    let loaded = gathered .before .before in
+    let deep = loaded .before .before in
+    let right = deep .before .before in
+    let left = right .before .before in
+    let pre = left .before .before .before .pre .0 in
+    let u = left-page (pre .pair) (left .child .ensures) in
+    let v = right-page (pre .pair) (right .child2 .ensures) in
+    let entry = join-entry pre (right-depth (pre .pair) (deep .depth .ensures)) (pointed .pointer-to .ensures ∙ u) in
+    join-settle pre _ (loaded .load-page .ensures) _ entry _ (put .put .ensures) _ (joined .joined .ensures) _ (join-table pre (gathered .gather .ensures) u v)
 
--- src/lib.rt:61:1
 same-length : tie.Need-same-length
 same-length c = search needs
 
--- src/lib.rt:61:1
 returns : tie.Need-returns
 returns c =
-    let pre = c .before .before .before .before .before .before .before .before .before .before .before .before .before .before .before .before .before .before .before .before .pre .0 in
-    let left = left-is (pre .pair) (c .before .before .before .before .before .before .before .before .before .before .before .before .before .before .before .before .before .child .ensures) in
-    join-post pre _ (c .before .before .before .before .before .before .before .before .before .before .before .load-page .ensures) _ (join-entry pre (right-depth (pre .pair) (c .before .before .before .before .before .before .before .before .before .before .before .before .before .depth .ensures)) (c .before .before .before .before .before .before .pointer-to .ensures ∙ left)) _ (c .before .before .before .before .before .put .ensures) _ (c .before .before .before .before .joined .ensures)
-    _ (join-table pre (c .before .before .before .before .before .before .before .before .before .gather .ensures) left (right-is (pre .pair) (c .before .before .before .before .before .before .before .before .before .before .before .before .before .before .before .child2 .ensures))) _ _ (c .before .before .settle .ensures)
+    let settled = c .before .before in
+    let joined = settled .before .before in
+    let put = joined .before in
+    let pointed = put .before in
+    let gathered = pointed .before .before .before in
+    let loaded = gathered .before .before in
+    let deep = loaded .before .before in
+    let right = deep .before .before in
+    let left = right .before .before in
+    let pre = left .before .before .before .pre .0 in
+    let u = left-page (pre .pair) (left .child .ensures) in
+    let v = right-page (pre .pair) (right .child2 .ensures) in
+    let entry = join-entry pre (right-depth (pre .pair) (deep .depth .ensures)) (pointed .pointer-to .ensures ∙ u) in
+    join-post pre _ (loaded .load-page .ensures) _ entry _ (put .put .ensures) _ (joined .joined .ensures) _ (join-table pre (gathered .gather .ensures) u v) _ _
+    (settled .settle .ensures)
 
 pub join-spec : {M : Type 1} → statement M
 join-spec =

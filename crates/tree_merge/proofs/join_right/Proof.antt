@@ -1,55 +1,77 @@
--- Assumes nothing.
-use mathlib.Core.Path.{_∙_, sym}
+-- The last entry has no right neighbour; any other is joined with it, where the two may be one. Assumes nothing.
 use native.Mathlib.Omega.{arith}
-use Rattle.tree_merge.proofs.Sides.{pair-join, place-within, right-last, right-pair, right-shut, right-done}
 use borrow.Author.Tests.{not-true, not-false}
 use borrow.Author.Needs.{needs}
+use Rattle.tree_merge.proofs.EntryReads.{page-within}
+use Rattle.tree_merge.proofs.PairLaws.{pair-join}
+use Rattle.tree_merge.proofs.NeighbourTests.{right-last, right-pair, right-shut, right-done}
 use Rattle.tree_merge.proofs.join_right.Statement.{statement}
 use Rattle.tree_merge.proofs.join_right.Tie as tie
 
--- src/lib.rt:107:13
 count-requires : tie.Need-count-requires
-count-requires c κs = place-within (c .before .before .pre .0 .sparse .place)
+count-requires c κs = page-within (c .before .before .pre .0 .sparse .place .back)
 
--- src/lib.rt:107:8
 wide-requires : tie.Need-wide-requires
 wide-requires c κs = search needs
 
--- src/lib.rt:107:39
 add-if1 : tie.Need-add-if1
 add-if1 c = search needs
 
--- src/lib.rt:108:9
 same-length : tie.Need-same-length
 same-length c = search needs
 
--- src/lib.rt:108:9
 returns : tie.Need-returns
-returns c = right-last (c .before .before .before .before .before .pre .0) (c .before .wide .ensures .0) (c .before .before .count .ensures) (c .if1 .taken)
+returns c =
+    let sized = c .before in
+    let counted = sized .before in
+    let start = counted .before .before .before in
+    right-last (start .pre .0) (sized .wide .ensures .0) (counted .count .ensures) (c .if1 .taken)
 
--- src/lib.rt:110:9
 joinable-requires : tie.Need-joinable-requires
-joinable-requires c κs = right-pair (c .before .before .before .before .before .before .pre .0) (c .before .before .wide .ensures .0) (c .before .before .before .count .ensures) (omega (arith, c .before .if1 .left))
+joinable-requires c κs =
+    let tested = c .before in
+    let sized = tested .before in
+    let counted = sized .before in
+    let start = counted .before .before .before in
+    right-pair (start .pre .0) (sized .wide .ensures .0) (counted .count .ensures) (omega (arith, tested .if1 .left))
 
--- src/lib.rt:111:9
 same-length-2 : tie.Need-same-length-2
 same-length-2 c = search needs
 
--- src/lib.rt:111:9
 returns-2 : tie.Need-returns-2
-returns-2 c = right-shut (c .before .before .before .before .before .before .before .before .pre .0) (c .before .before .before .before .wide .ensures .0) (c .before .before .before .before .before .count .ensures) (omega (arith, c .before .before .before .if1 .left)) (sym (c .before .joinable .ensures) ∙ not-true _ (c .if2 .taken))
+returns-2 c =
+    let asked = c .before in
+    let tested = asked .before .before in
+    let sized = tested .before in
+    let counted = sized .before in
+    let start = counted .before .before .before in
+    right-shut (start .pre .0) (sized .wide .ensures .0) (counted .count .ensures) (omega (arith, tested .if1 .left)) (asked .joinable .ensures) (not-true _ (c .if2 .taken))
 
--- src/lib.rt:113:5
 join-requires : tie.Need-join-requires
-join-requires c κs = (pair-join (right-pair (c .before .before .before .before .before .before .before .before .before .pre .0) (c .before .before .before .before .before .wide .ensures .0) (c .before .before .before .before .before .before .count .ensures) (omega (arith, c .before .before .before .before .if1 .left))) (sym (c .before .before .joinable .ensures) ∙ not-false _ (c .before .if2 .left)), c .before .before .before .before .before .before .before .before .before .pre .1)
+join-requires c κs =
+    let may = c .before in
+    let asked = may .before in
+    let tested = asked .before .before in
+    let sized = tested .before in
+    let counted = sized .before in
+    let start = counted .before .before .before in
+    let pair = right-pair (start .pre .0) (sized .wide .ensures .0) (counted .count .ensures) (omega (arith, tested .if1 .left)) in
+    (pair-join pair (asked .joinable .ensures) (not-false _ (may .if2 .left)), start .pre .1)
 
--- src/lib.rt:103:1
 same-length-3 : tie.Need-same-length-3
 same-length-3 c = search needs
 
--- src/lib.rt:103:1
 returns-3 : tie.Need-returns-3
-returns-3 c = right-done (c .before .before .before .before .before .before .before .before .before .before .before .before .pre .0) (c .before .before .before .before .before .before .before .before .wide .ensures .0) (c .before .before .before .before .before .before .before .before .before .count .ensures) (omega (arith, c .before .before .before .before .before .before .before .if1 .left)) (sym (c .before .before .before .before .before .joinable .ensures) ∙ not-false _ (c .before .before .before .before .if2 .left)) _ (c .before .before .join .ensures)
+returns-3 c =
+    let done = c .before .before in
+    let may = done .before .before in
+    let asked = may .before in
+    let tested = asked .before .before in
+    let sized = tested .before in
+    let counted = sized .before in
+    let start = counted .before .before .before in
+    right-done (start .pre .0) (sized .wide .ensures .0) (counted .count .ensures) (omega (arith, tested .if1 .left)) (asked .joinable .ensures) (not-false _ (may .if2 .left)) _
+    (done .join .ensures)
 
 pub join-right-spec : {M : Type 1} → statement M
 join-right-spec =

@@ -1,5 +1,5 @@
--- Assumes nothing.
-use mathlib.Core.Path.{_≡_, ap₂}
+-- Four times the count is compared with e, in wide numbers. Assumes nothing.
+use mathlib.Core.Path.{ap₂}
 use Prim.Native.Nat.{ℕ, _*_}
 use lib.Dec.{ltb}
 use borrow.Author.Needs.{needs}

@@ -1,8 +1,8 @@
 -- Two pages as one: the entries of the right page behind those of the left, and the right page freed. Assumes nothing.
 use mathlib.Core.Path.{_≡_, refl, sym, ap, _∙_, subst}
 use mathlib.Core.Logic.{_⊎_, inl, inr}
-use mathlib.Core.List.{List, [], _∷_, _++_, map, map-append}
-use Prim.Native.Nat.{ℕ, zero, suc, _+_, _≤_, _<_}
+use mathlib.Core.List.{List, [], _∷_, _++_, map-append}
+use Prim.Native.Nat.{ℕ, suc, _+_, _≤_}
 use native.Mathlib.Omega.{arith}
 use lib.ListN.{length, take, length-append}
 use Rattle.leaf_list.proofs.Lists.{all-append}
@@ -15,7 +15,7 @@ use Rattle.index_table.specs.Layout.{Layout, layoutOf, Ref, Within, Fitting, pa
 use Rattle.index_table.specs.Pages.{Pages, pagesAt, numberedAt, same, met, metAll, inUse}
 use Rattle.index_table.specs.Soundness.{Cleared}
 use Rattle.index_table.proofs.PageBytes.{within-table}
-use Rattle.index_table.proofs.PageCounts.{same-self, same-other, same-cases}
+use Rattle.index_table.proofs.PageCounts.{same-self, same-cases}
 use Rattle.index_table.proofs.Frames.{Keeps, UnchangedRow, unchanged-row}
 use Rattle.index_write.specs.Standing.{Owned}
 use Rattle.index_write.proofs.StoredRows.{row-page-head, page-of-level}
@@ -26,7 +26,7 @@ use Rattle.tree_delete.proofs.RowChanges.{page-some}
 use Rattle.tree_delete.proofs.Settling.{settled-bytes, settled-other, settled-refs, settled-cleared, settled-long, settled-front}
 use Rattle.tree_delete.proofs.Sweeps.{linked-fits}
 
--- The last depth of a row that is not empty.
+-- The last depth of a row that is not empty is its own, whatever stands before it.
 last-some : (σ τ : ℕ) (row : List Ref) → 1 ≤ length row → lastDepth depthOf σ row ≡ lastDepth depthOf τ row
 last-some σ τ [] h = absurd (omega arith)
 last-some σ τ (x ∷ row) h = refl
@@ -41,10 +41,11 @@ module _ (e P n : ℕ) (b : List ℕ) (u v : Ref) (paged : Paged e P b) (left : 
   abbrev pages : Pages
   pages = pagesAt L b
 
-  -- The row of the joined page, and its entry in the parent.
+  -- This is the row of the joined page,
   abbrev both : List Ref
   both = pages (u .1) ++ pages (v .1)
 
+  -- and this its entry in the parent.
   abbrev pub joinedRef : Ref
   joinedRef = (v .0, u .1)
 
@@ -60,24 +61,28 @@ module _ (e P n : ℕ) (b : List ℕ) (u v : Ref) (paged : Paged e P b) (left : 
   fitting : Fitting 2 both
   fitting = linked-fits e P n b both (paged .high) all-linked
 
-  -- The table with the left page stored, and then the right one freed.
-  unfoldable pub b₁ : List ℕ
-  b₁ = settled e n b (u .1) both
+  -- This is the table with the left page stored,
+  unfoldable pub storedTable : List ℕ
+  storedTable = settled e n b (u .1) both
 
+  -- and this the one where the right page is freed then.
   unfoldable pub joinedTable : List ℕ
-  joinedTable = settled e n b₁ (v .1) []
+  joinedTable = settled e n storedTable (v .1) []
+
+  abbrev pages′ : Pages
+  pages′ = pagesAt L joinedTable
 
   within-left : Within L b (u .1)
   within-left = within-table L P (u .1) b (omega (arith, paged .table)) (left .0 .number)
 
-  long₁ : length b₁ ≡ length b
-  unfolding b₁
-  long₁ = settled-long e n b (u .1) both within-left few fitting
+  long-stored : length storedTable ≡ length b
+  unfolding storedTable
+  long-stored = settled-long e n b (u .1) both within-left few fitting
 
-  within-right : Within L b₁ (v .1)
-  within-right = within-table L P (v .1) b₁ (omega (arith, paged .table, long₁)) (right .0 .number)
+  within-right : Within L storedTable (v .1)
+  within-right = within-table L P (v .1) storedTable (omega (arith, paged .table, long-stored)) (right .0 .number)
 
-  -- ---- which pages are met
+  -- ---- which pages are met: the two, once each, and those below them
 
   opened : (q : ℕ) → metAll (suc n) pages (u ∷ v ∷ []) q ≡ same (u .1) q + same (v .1) q + metAll n pages both q
   unfolding met
@@ -92,25 +97,25 @@ module _ (e P n : ℕ) (b : List ℕ) (u v : Ref) (paged : Paged e P b) (left : 
   apart : v .1 ≡ u .1 → ⊥
   apart z = let s : same (v .1) (u .1) ≡ 1 = ap (same (v .1)) (sym z) ∙ same-self (v .1) in omega (arith, s, at-left .0)
 
-  -- ---- what is read
+  -- ---- what is read: the left page has both rows, the right one none, and the others what they had
 
   other : (q : ℕ) → (u .1 ≡ q → ⊥) → (v .1 ≡ q → ⊥) → pageBytes L joinedTable q ≡ pageBytes L b q
-  unfolding joinedTable b₁
-  other q ne ne′ = settled-other e n b₁ (v .1) [] within-right (omega arith) tt q ne′ ∙ settled-other e n b (u .1) both within-left few fitting q ne
+  unfolding joinedTable storedTable
+  other q ne ne′ = settled-other e n storedTable (v .1) [] within-right (omega arith) tt q ne′ ∙ settled-other e n b (u .1) both within-left few fitting q ne
 
   left-bytes : pageBytes L joinedTable (u .1) ≡ pageBytes L (settled e n b (u .1) both) (u .1)
-  unfolding joinedTable b₁
-  left-bytes = settled-other e n b₁ (v .1) [] within-right (omega arith) tt (u .1) apart
+  unfolding joinedTable storedTable
+  left-bytes = settled-other e n storedTable (v .1) [] within-right (omega arith) tt (u .1) apart
 
-  left-row : pagesAt L joinedTable (u .1) ≡ both
+  left-row : pages′ (u .1) ≡ both
   left-row = ap (refsOf L) left-bytes ∙ settled-refs e n b (u .1) both within-left few fitting
 
   left-level : levelOf (pageBytes L joinedTable (u .1)) ≡ n
   left-level = ap levelOf (left-bytes ∙ settled-bytes e n b (u .1) both within-left few fitting ∙ page-some e n both some) ∙ page-of-level (row-page-head e n both)
 
-  right-row : pagesAt L joinedTable (v .1) ≡ []
+  right-row : pages′ (v .1) ≡ []
   unfolding joinedTable
-  right-row = settled-refs e n b₁ (v .1) [] within-right (omega arith) tt
+  right-row = settled-refs e n storedTable (v .1) [] within-right (omega arith) tt
 
   keeps : Keeps L b joinedTable (metAll n pages both)
   keeps q l =
@@ -120,37 +125,40 @@ module _ (e P n : ℕ) (b : List ℕ) (u v : Ref) (paged : Paged e P b) (left : 
   stays : UnchangedRow L n b joinedTable both
   stays = unchanged-row L b joinedTable n both keeps
 
-  met-now : (q : ℕ) → metAll (suc n) (pagesAt L joinedTable) (joinedRef ∷ []) q ≡ same (u .1) q + metAll n pages both q
+  met-now : (q : ℕ) → metAll (suc n) pages′ (joinedRef ∷ []) q ≡ same (u .1) q + metAll n pages both q
   unfolding met
   met-now q =
-      let z : metAll n (pagesAt L joinedTable) (pagesAt L joinedTable (u .1)) q ≡ metAll n (pagesAt L joinedTable) both q = ap (λ (l : List Ref). metAll n (pagesAt L joinedTable) l q) left-row in
+      let z : metAll n pages′ (pages′ (u .1)) q ≡ metAll n pages′ both q = ap (λ (l : List Ref). metAll n pages′ l q) left-row in
       omega (arith, z, stays .meets q)
 
-  used-left : inUse (pagesAt L joinedTable (u .1)) ≡ 1
-  used-left = let z : length (pagesAt L joinedTable (u .1)) ≡ length both = ap length left-row in omega (arith, z, some)
+  used-left : inUse (pages′ (u .1)) ≡ 1
+  used-left = let z : length (pages′ (u .1)) ≡ length both = ap length left-row in omega (arith, z, some)
 
-  used-right : inUse (pagesAt L joinedTable (v .1)) ≡ 0
-  used-right = let z : length (pagesAt L joinedTable (v .1)) ≡ 0 = ap length right-row in omega (arith, z)
+  used-right : inUse (pages′ (v .1)) ≡ 0
+  used-right = let z : length (pages′ (v .1)) ≡ 0 = ap length right-row in omega (arith, z)
 
-  counted : (q : ℕ) → metAll (suc n) (pagesAt L joinedTable) (joinedRef ∷ []) q + inUse (pages q) ≡ metAll (suc n) pages (u ∷ v ∷ []) q + inUse (pagesAt L joinedTable q)
+  -- Page q is met as often as it is in use, if it was so before.
+  abbrev Balanced : ℕ → Type 0
+  Balanced q = metAll (suc n) pages′ (joinedRef ∷ []) q + inUse (pages q) ≡ metAll (suc n) pages (u ∷ v ∷ []) q + inUse (pages′ q)
+
+  -- Page q is the page p, or it is not.
+  abbrev Either : ℕ → ℕ → Type 0
+  Either p q = (p ≡ q) ⊎ ((p ≡ q → ⊥) × (same p q ≡ 0))
+
+  counted : (q : ℕ) → Balanced q
   counted q = go (same-cases (u .1) q) (same-cases (v .1) q)
     where
-      go : (u .1 ≡ q) ⊎ ((u .1 ≡ q → ⊥) × (same (u .1) q ≡ 0)) → (v .1 ≡ q) ⊎ ((v .1 ≡ q → ⊥) × (same (v .1) q ≡ 0))
-          → metAll (suc n) (pagesAt L joinedTable) (joinedRef ∷ []) q + inUse (pages q) ≡ metAll (suc n) pages (u ∷ v ∷ []) q + inUse (pagesAt L joinedTable q)
-      go (inl s) t =
-          subst (λ (r : ℕ). metAll (suc n) (pagesAt L joinedTable) (joinedRef ∷ []) r + inUse (pages r) ≡ metAll (suc n) pages (u ∷ v ∷ []) r + inUse (pagesAt L joinedTable r)) s
-          (omega (arith, met-now (u .1), opened (u .1), same-self (u .1), at-left .0, at-left .1, at-left .2, used-left))
-      go (inr s) (inl t) =
-          subst (λ (r : ℕ). metAll (suc n) (pagesAt L joinedTable) (joinedRef ∷ []) r + inUse (pages r) ≡ metAll (suc n) pages (u ∷ v ∷ []) r + inUse (pagesAt L joinedTable r)) t
-          (omega (arith, met-now (v .1), opened (v .1), same-self (v .1), at-right .0, at-right .1, at-right .2, used-right))
+      go : Either (u .1) q → Either (v .1) q → Balanced q
+      go (inl s) t = subst Balanced s (omega (arith, met-now (u .1), opened (u .1), same-self (u .1), at-left .0, at-left .1, at-left .2, used-left))
+      go (inr s) (inl t) = subst Balanced t (omega (arith, met-now (v .1), opened (v .1), same-self (v .1), at-right .0, at-right .1, at-right .2, used-right))
       go (inr s) (inr t) =
-          let o : inUse (pagesAt L joinedTable q) ≡ inUse (pages q) = ap (λ (l : List ℕ). inUse (refsOf L l)) (other q (s .0) (t .0)) in
+          let o : inUse (pages′ q) ≡ inUse (pages q) = ap (λ (l : List ℕ). inUse (refsOf L l)) (other q (s .0) (t .0)) in
           omega (arith, met-now q, opened q, s .1, t .1, o)
 
   untouched : (q : ℕ) → metAll (suc n) pages (u ∷ v ∷ []) q ≡ 0 → pageBytes L joinedTable q ≡ pageBytes L b q
   untouched q z = go (same-cases (u .1) q) (same-cases (v .1) q)
     where
-      go : (u .1 ≡ q) ⊎ ((u .1 ≡ q → ⊥) × (same (u .1) q ≡ 0)) → (v .1 ≡ q) ⊎ ((v .1 ≡ q → ⊥) × (same (v .1) q ≡ 0)) → pageBytes L joinedTable q ≡ pageBytes L b q
+      go : Either (u .1) q → Either (v .1) q → pageBytes L joinedTable q ≡ pageBytes L b q
       go (inl s) t = absurd (let k : same (u .1) q ≡ 1 = ap (same (u .1)) (sym s) ∙ same-self (u .1) in omega (arith, k, opened q, z))
       go (inr s) (inl t) = absurd (let k : same (v .1) q ≡ 1 = ap (same (v .1)) (sym t) ∙ same-self (v .1) in omega (arith, k, opened q, z))
       go (inr s) (inr t) = other q (s .0) (t .0)
@@ -162,15 +170,15 @@ module _ (e P n : ℕ) (b : List ℕ) (u v : Ref) (paged : Paged e P b) (left : 
 
   long : length joinedTable ≡ length b
   unfolding joinedTable
-  long = settled-long e n b₁ (v .1) [] within-right (omega arith) tt ∙ long₁
+  long = settled-long e n storedTable (v .1) [] within-right (omega arith) tt ∙ long-stored
 
   front : take 16 joinedTable ≡ take 16 b
-  unfolding joinedTable b₁
-  front = settled-front e n b₁ (v .1) [] within-right (omega arith) tt ∙ settled-front e n b (u .1) both within-left few fitting
+  unfolding joinedTable storedTable
+  front = settled-front e n storedTable (v .1) [] within-right (omega arith) tt ∙ settled-front e n b (u .1) both within-left few fitting
 
   cleared : (q : ℕ) → Cleared L (pageBytes L b q) → Cleared L (pageBytes L joinedTable q)
-  unfolding joinedTable b₁
-  cleared q c = settled-cleared e n b₁ (v .1) [] within-right (omega arith) tt q (settled-cleared e n b (u .1) both within-left few fitting q c)
+  unfolding joinedTable storedTable
+  cleared q c = settled-cleared e n storedTable (v .1) [] within-right (omega arith) tt q (settled-cleared e n b (u .1) both within-left few fitting q c)
 
   -- The joined page stands for the two.
   pub joined-kept : Kept (layoutOf e) P (suc n) b (metAll (suc n) (pagesAt (layoutOf e) b) (u ∷ v ∷ [])) joinedTable (joinedRef ∷ [])
@@ -190,9 +198,10 @@ module _ (e P n : ℕ) (b : List ℕ) (u v : Ref) (paged : Paged e P b) (left : 
     );
   }
 
-  -- What is read there.
-  pub joined-number : numberedAt 65535 (suc n) (pagesAt (layoutOf e) joinedTable) joinedRef ≡ joinNumbered n (numberedAt 65535 (suc n) (pagesAt (layoutOf e) b) u) (numberedAt 65535 (suc n) (pagesAt (layoutOf e) b) v)
+  -- It reads as the two joined.
+  pub joined-number : numberedAt 65535 (suc n) (pagesAt (layoutOf e) joinedTable) joinedRef
+      ≡ joinNumbered n (numberedAt 65535 (suc n) (pagesAt (layoutOf e) b) u) (numberedAt 65535 (suc n) (pagesAt (layoutOf e) b) v)
   unfolding numberedAt
   joined-number =
       ap (λ (l : List (Numbered n)). (u .1, l))
-      (ap (numbersAt n (pagesAt L joinedTable)) left-row ∙ stays .numbereds 65535 ∙ map-append (numberedAt 65535 n pages) (pages (u .1)) (pages (v .1)))
+      (ap (numbersAt n pages′) left-row ∙ stays .numbereds 65535 ∙ map-append (numberedAt 65535 n pages) (pages (u .1)) (pages (v .1)))

@@ -1,7 +1,7 @@
 -- The rows of two pages, one behind the other, stored as one page. Assumes nothing.
 use mathlib.Core.Path.{_≡_, sym, ap, ap₂, _∙_}
-use mathlib.Core.List.{List, [], _∷_, _++_}
-use Prim.Native.Nat.{ℕ, _+_, _-_, _≤_, _<_}
+use mathlib.Core.List.{List, _++_}
+use Prim.Native.Nat.{ℕ, _+_, _-_, _<_}
 use native.Mathlib.Omega.{arith}
 use lib.ListN.{length, length-append, replicate}
 use lib.Seq.{slice, take-length}
@@ -16,17 +16,19 @@ use Rattle.index_write.specs.Storing.{Storable, Loadable}
 use Rattle.tree_delete.proofs.RowChanges.{page-some}
 use Rattle.tree_merge.specs.Merges.{GatherPre, gathered}
 
-module _ {e : ℕ} {b : List ℕ} {left right : ℕ} (pre : GatherPre e b left right) (small : e < 256) (bytes : Bytes b)
-    {first : Row} (loaded : Holds first (length (pagesAt (layoutOf e) b left)) (pagesAt (layoutOf e) b left)) {n : ℕ} (counted : n ≡ length (pagesAt (layoutOf e) b right)) where
+-- The left page is loaded, and the right one's entries are counted.
+module _ {e : ℕ} {b : List ℕ} {left right : ℕ} (pre : GatherPre e b left right) {first : Row}
+    (loaded : Holds first (length (pagesAt (layoutOf e) b left)) (pagesAt (layoutOf e) b left)) {n : ℕ} (counted : n ≡ length (pagesAt (layoutOf e) b right)) where
   abbrev L : Layout
   L = layoutOf e
 
+  -- This is the row of both.
   abbrev both : List Ref
   both = pagesAt L b left ++ pagesAt L b right
 
   -- The right page can be loaded behind the left one's row.
-  pub gather-load : Loadable e b right first 0 n
-  gather-load = record {
+  pub gather-load : e < 256 → Loadable e b right first 0 n
+  gather-load small = record {
     within = pre .within-right;
     few = omega (arith, pre .fit);
     order = omega arith;
@@ -41,8 +43,8 @@ module _ {e : ℕ} {b : List ℕ} {left right : ℕ} (pre : GatherPre e b left r
         ∙ ap₂ (λ (l m : List Ref). l ++ m) (loaded .entries) (ap (λ (k : ℕ). slice 0 k (pagesAt L b right)) counted ∙ take-length (pagesAt L b right))
 
     -- The whole row can be stored,
-    pub gather-store : Storable e b left row 0 (row .count)
-    gather-store = record {
+    pub gather-store : e < 256 → Bytes b → Storable e b left row 0 (row .count)
+    gather-store small bytes = record {
       within = pre .within-left;
       order = omega arith;
       places = omega (arith, got .count, loaded .count, counted, pre .fit);
@@ -50,7 +52,7 @@ module _ {e : ℕ} {b : List ℕ} {left right : ℕ} (pre : GatherPre e b left r
       fitting = rw rows (all-append (λ (x : Ref). x .1 < 65536) (pagesAt L b left) (pagesAt L b right) (refs-fit L b left bytes) (refs-fit L b right bytes));
     }
 
-    -- and the right page freed.
+    -- and with the right page freed then, the table is the one that is asked for.
     pub gather-post : (level : ℕ) (b₁ b₂ : List ℕ) → b₁ ≡ store (layoutOf e) b left (rowPage e level (partOf row 0 (row .count)))
         → b₂ ≡ store (layoutOf e) b₁ right (replicate (pageSize (layoutOf e)) 0) → b₂ ≡ gathered e level b left right
     gather-post level b₁ b₂ f g =
