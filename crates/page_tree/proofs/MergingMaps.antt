@@ -32,14 +32,14 @@ module _ {A B : Type 0} (E : ℕ) (depth : B → ℕ) (f : A → B) (size : A �
 
   withRight-map : (x : A) (xs : List A) → map f (rightA x xs) ≡ rightB (f x) (map f xs)
   withRight-map x [] = refl
-  withRight-map x (y ∷ ys) = rw (sizes x, sizes y) (go (joinable E depth size′ glue′ (f x) (f y)))
+  withRight-map x (y ∷ ys) = rw (sizes x, sizes y) (go (joinable E depth size′ (f x) (f y)))
     where
       go : (t : Bool) → map f (cond t (glue x y ∷ ys) (x ∷ y ∷ ys)) ≡ cond t (glue′ (f x) (f y) ∷ map f ys) (f x ∷ f y ∷ map f ys)
       go true = ap (λ (z : B). z ∷ map f ys) (glues x y)
       go false = refl
 
   withLeft-map : (z x : A) (xs : List A) → map f (withLeft E depthA size glue z x xs) ≡ withLeft E depth size′ glue′ (f z) (f x) (map f xs)
-  withLeft-map z x xs = rw (sizes z, sizes x) (go (joinable E depth size′ glue′ (f z) (f x)))
+  withLeft-map z x xs = rw (sizes z, sizes x) (go (joinable E depth size′ (f z) (f x)))
     where
       go : (t : Bool) → map f (cond t (glue z x ∷ xs) (z ∷ rightA x xs)) ≡ cond t (glue′ (f z) (f x) ∷ map f xs) (f z ∷ rightB (f x) (map f xs))
       go true = ap (λ (y : B). y ∷ map f xs) (glues z x)

@@ -23,14 +23,14 @@ module _ {A : Type 0} (E : ℕ) (depth size : A → ℕ) (glue : A → A → A) 
   done (z ∷ xs) ys = ap (accept E depth size glue z) (done xs ys)
 
   -- A thing that is not sparse stays as it is.
-  pub placed-calm : (front : List A) (x : A) (rest : List A) → sparse E depth size glue x ≡ false → placed front x rest ≡ front ++ x ∷ rest
+  pub placed-calm : (front : List A) (x : A) (rest : List A) → sparse E (size x) ≡ false → placed front x rest ≡ front ++ x ∷ rest
   placed-calm front x rest h = rw h (ap (λ (r : Offered A). settle E depth size glue (r .0) (r .1)) (done front (x ∷ rest)))
 
   -- For a sparse one that is first the right neighbour is tried.
-  pub placed-first : (x : A) (rest : List A) → sparse E depth size glue x ≡ true → placed [] x rest ≡ withRight E depth size glue x rest
+  pub placed-first : (x : A) (rest : List A) → sparse E (size x) ≡ true → placed [] x rest ≡ withRight E depth size glue x rest
   placed-first x rest h = rw h refl
 
-  module _ (front : List A) (z x : A) (rest : List A) (few : sparse E depth size glue x ≡ true) where
+  module _ (front : List A) (z x : A) (rest : List A) (few : sparse E (size x) ≡ true) where
     -- What the left neighbour makes of it stands behind the others.
     before : (ys : List A) → accept E depth size glue z (true, x ∷ rest) ≡ (false, ys) → placed (front ++ z ∷ []) x rest ≡ front ++ ys
     before ys h =
@@ -39,11 +39,11 @@ module _ {A : Type 0} (E : ℕ) (depth size : A → ℕ) (glue : A → A → A) 
         (foldr-append (accept E depth size glue) (true, x ∷ rest) front (z ∷ []) ∙ ap (walkedBack front) h ∙ done front ys))
 
     -- Any other sparse one is joined with the left neighbour, where they may be one;
-    pub placed-left : joinable E depth size glue z x ≡ true → placed (front ++ z ∷ []) x rest ≡ front ++ glue z x ∷ rest
+    pub placed-left : joinable E depth size z x ≡ true → placed (front ++ z ∷ []) x rest ≡ front ++ glue z x ∷ rest
     placed-left h = before (glue z x ∷ rest) (rw h refl)
 
     -- where they may not, the right one is tried.
-    pub placed-right : joinable E depth size glue z x ≡ false → placed (front ++ z ∷ []) x rest ≡ front ++ z ∷ withRight E depth size glue x rest
+    pub placed-right : joinable E depth size z x ≡ false → placed (front ++ z ∷ []) x rest ≡ front ++ z ∷ withRight E depth size glue x rest
     placed-right h = before (z ∷ withRight E depth size glue x rest) (rw h refl)
 
   -- Merging a row comes to that place: what the walk passes, the thing where it stops, and the rest.

@@ -50,8 +50,8 @@ module _ {A : Type 0} (E : ℕ) (depth size : A → ℕ) (glue : A → A → A) 
   So-far (x ∷ xs) true ys = (bs : List ℕ) × (ys ≡ below bs x ∷ xs)
 
   -- So it is where the walk stops,
-  offer-is : (bs : List ℕ) (x : A) (xs : List A) → So-far (x ∷ xs) (sparse E depth size glue (below bs x)) (below bs x ∷ xs)
-  offer-is bs x xs = go (sparse E depth size glue (below bs x))
+  offer-is : (bs : List ℕ) (x : A) (xs : List A) → So-far (x ∷ xs) (sparse E (size (below bs x))) (below bs x ∷ xs)
+  offer-is bs x xs = go (sparse E (size (below bs x)))
     where
       go : (t : Bool) → So-far (x ∷ xs) t (below bs x ∷ xs)
       go true = (bs, refl)

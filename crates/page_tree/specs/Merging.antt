@@ -7,32 +7,32 @@ use lib.ListN.{length}
 use Rattle.page_tree.specs.Tree.{Node, depth}
 use Rattle.page_tree.specs.Walk.{walk}
 
+-- A page with n entries is sparse: "it holds fewer than a quarter of E entries".
+abbrev pub sparse : ℕ → ℕ → Bool
+sparse E n = ltb (4 * n) E
+
+-- Neighbours x and y may be one: the depth of the left one "is greater than" that of the right one "and both fit in one page".
+abbrev pub joinable : {A : Type 0} → ℕ → (A → ℕ) → (A → ℕ) → A → A → Bool
+joinable E depth size x y = cond (ltb (depth y) (depth x)) (leb (size x + size y) E) false
+
 -- The rest of a row, and whether its first thing is still to be joined with a neighbour.
 abbrev pub Offered : Type 0 → Type 0
 Offered A = Bool × List A
 
 -- Things of a row, each with the depth of its parent entry, the number of its entries, and what two neighbours joined are.
 module _ {A : Type 0} (E : ℕ) (depth size : A → ℕ) (glue : A → A → A) where
-  -- "If it holds fewer than a quarter of E entries"
-  abbrev pub sparse : A → Bool
-  sparse x = ltb (4 * size x) E
-
-  -- Neighbours x and y: the depth of the left one "is greater than" that of the right one "and both fit in one page".
-  abbrev pub joinable : A → A → Bool
-  joinable x y = cond (ltb (depth y) (depth x)) (leb (size x + size y) E) false
-
   -- "join it with its right neighbour under the same parent"
   abbrev pub withRight : A → List A → List A
   withRight x [] = x ∷ []
-  withRight x (y ∷ ys) = cond (joinable x y) (glue x y ∷ ys) (x ∷ y ∷ ys)
+  withRight x (y ∷ ys) = cond (joinable E depth size x y) (glue x y ∷ ys) (x ∷ y ∷ ys)
 
   -- "join it with its left neighbour under the same parent"; "Where such a page can't be so joined", with the right one.
   abbrev pub withLeft : A → A → List A → List A
-  withLeft z x xs = cond (joinable z x) (glue z x ∷ xs) (z ∷ withRight x xs)
+  withLeft z x xs = cond (joinable E depth size z x) (glue z x ∷ xs) (z ∷ withRight x xs)
 
   -- The thing found, before those after it.
   abbrev pub offer : A → List A → Offered A
-  offer x xs = (sparse x, x ∷ xs)
+  offer x xs = (sparse E (size x), x ∷ xs)
 
   -- One thing more on the left: it is the left neighbour of a thing that is still to be joined.
   abbrev pub beside : A → Bool → List A → List A
@@ -40,6 +40,7 @@ module _ {A : Type 0} (E : ℕ) (depth size : A → ℕ) (glue : A → A → A) 
   beside z true [] = z ∷ []
   beside z true (x ∷ xs) = withLeft z x xs
 
+  -- The same on the way back: what was to be joined is settled then.
   abbrev pub accept : A → Offered A → Offered A
   accept z r = (false, beside z (r .0) (r .1))
 

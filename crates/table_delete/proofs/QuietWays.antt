@@ -12,6 +12,7 @@ use Rattle.page_tree.specs.Rows.{All, lastDepth}
 use Rattle.page_tree.specs.Row.{depthOf}
 use Rattle.page_tree.specs.declared.Unwind.{Unwind}
 use Rattle.page_tree.specs.OffPages.{Left, stepEntry, sweep, nextDepth, strikeIn}
+use Rattle.page_tree.specs.Merging.{sparse}
 use Rattle.page_tree.specs.Numbered.{Numbered, numberedDepth, numberedLeaves, keptUnder, stepNumbered, deleteNumbered}
 use Rattle.page_tree.proofs.ListLaws.{all-left}
 use Rattle.index_table.specs.Layout.{Layout, layoutOf, Ref, Within, store}
@@ -256,8 +257,8 @@ way-none (suc n) {e} {P} {b} {x} {w} {key} {position} τ few leaf lowest h a b�
     missed-at lowest h′ s a′
     ∙ ap (λ (l : List Ref). told pages′ (s .position) (getD l (s .at) (0, 0))) same
     ∙ ap (λ (t : Bool). cond t false (noneMissed e lowest n (leftFrom w key (s .position)) (numberedAt 65535 (suc n) pages′ y)))
-    (only-from (suc n) lowest (ltb (4 * length (numberedAt 65535 (suc n) pages′ y .1)) e)
-    (λ l. ap (λ (m : ℕ). ltb (4 * m) e) (number-size e P b′ n y) ∙ calm n (s .trail) (sparseAt e pages (x .1)) l down (a .2)))
+    (only-from (suc n) lowest (sparse e (length (numberedAt 65535 (suc n) pages′ y .1)))
+    (λ l. ap (sparse e) (number-size e P b′ n y) ∙ calm n (s .trail) (sparseAt e pages (x .1)) l down (a .2)))
     ∙ below
   where
     told : Pages → ℕ → Ref → Bool
@@ -268,5 +269,5 @@ way-none (suc n) {e} {P} {b} {x} {w} {key} {position} τ few leaf lowest h a b�
         → sparseAt e (pagesAt (layoutOf e) b′) (y .1) ≡ false
     calm zero σ t l g r = ap (sparseAt e (pagesAt (layoutOf e) b′)) (sym (r .page-is)) ∙ k .own (omega (arith, l))
     calm (suc zero) σ t l g r =
-        ap (λ (row : List Ref). ltb (4 * length row) e) (way-row σ t leaf g r b′ d) ∙ sym (r .2 .thin-is) ∙ k .above (omega (arith, l))
+        ap (λ (row : List Ref). sparse e (length row)) (way-row σ t leaf g r b′ d) ∙ sym (r .2 .thin-is) ∙ k .above (omega (arith, l))
     calm (suc (suc m)) σ t l g r = absurd (omega (arith, l, k .high))

@@ -5,7 +5,7 @@ use mathlib.Core.Logic.{_⊎_}
 use mathlib.Core.List.{List, [], _∷_}
 use Prim.Native.Nat.{ℕ, zero, suc, _+_, _-_, _*_, _/_, _%_, _^_, _≤_, _<_}
 use lib.Count.{leadingZeros, trailingZeros}
-use lib.Dec.{eqb, leb, ltb}
+use lib.Dec.{eqb, leb}
 use lib.ListN.{length, getD, take, drop}
 use Rattle.leaf_list.specs.Keys.{bits, firstDifference}
 use Rattle.leaf_list.specs.Search.{positions}
@@ -15,6 +15,7 @@ use Rattle.page_tree.specs.Rows.{All, lastDepth}
 use Rattle.page_tree.specs.Tree.{leaves}
 use Rattle.page_tree.specs.Walk.{rest}
 use Rattle.page_tree.specs.Finding.{findBelow}
+use Rattle.page_tree.specs.Merging.{sparse}
 use Rattle.page_tree.proofs.WalkPlaces.{Passes, positionsAfter}
 use Rattle.index_table.specs.Header.{widthOf, entriesOf, pagesOf}
 use Rattle.index_table.specs.Layout.{Ref, Within, layoutOf, pageStart}
@@ -103,9 +104,9 @@ pub record DescendPre (b : List ℕ) (e P n page w key position : ℕ) : Type 0 
   pub narrow : key < 2 ^ w
   pub high : position ≤ w + 1
 
--- A page with fewer than a quarter of the e entries that it may hold.
+-- Whether a page is sparse that may hold e entries.
 abbrev pub sparseAt : ℕ → Pages → ℕ → Bool
-sparseAt e pages page = ltb (4 * length (pages page)) e
+sparseAt e pages page = sparse e (length (pages page))
 
 -- The place found in a page of level 0, with the depth τ before the page, below a page that is sparse or not; next is the next position there.
 pub record Ends (w key position τ page : ℕ) (few : Bool) (row : List Ref) (r : Leaf) : Type 0 where

@@ -11,6 +11,7 @@ use Rattle.index_table.specs.Layout.{layoutOf, Ref, Within, pageBytes, countOf,
 use Rattle.index_table.specs.Pages.{pagesAt}
 use Rattle.index_table.proofs.PageBytes.{within-table}
 use Rattle.index_write.proofs.LoadedRows.{entries-counted}
+use Rattle.table_search.specs.Places.{sparseAt}
 use Rattle.table_search.proofs.Stops.{read-entry}
 use Rattle.tree_delete.specs.Keeping.{Linked}
 use Rattle.tree_delete.specs.Unwinding.{BackPre}
@@ -30,7 +31,7 @@ readBelow e b x k = refAt (layoutOf e) (pageBytes (layoutOf e) b (x .1)) k
 
 -- This says whether the page of entry k has fewer than a quarter of e entries,
 abbrev pub sparseBelow : ℕ → List ℕ → Ref → ℕ → Bool
-sparseBelow e b x k = ltb (4 * length (rowBelow e b (entryBelow e b x k))) e
+sparseBelow e b x k = sparseAt e (pagesAt (layoutOf e) b) (entryBelow e b x k .1)
 
 -- and this whether the pages of entries k and k + 1 may be one.
 abbrev pub joinableBelow : ℕ → List ℕ → Ref → ℕ → Bool

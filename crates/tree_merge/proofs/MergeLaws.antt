@@ -2,13 +2,13 @@
 use mathlib.Core.Path.{_≡_, refl, sym, ap, ap₂, _∙_, subst}
 use mathlib.Core.Bool.{Bool, true, false, cond, true≢false}
 use mathlib.Core.List.{List, [], _∷_}
-use Prim.Native.Nat.{ℕ, zero, suc, _+_, _-_, _*_, _≤_, _<_}
+use Prim.Native.Nat.{ℕ, zero, suc, _-_, _≤_, _<_}
 use native.Mathlib.Omega.{arith}
 use lib.Dec.{ltb}
 use borrow.Author.Tests.{lt-ltb, le-ltb}
 use lib.ListN.{length, getD, take, drop}
 use Rattle.page_tree.specs.Walk.{rest, walk}
-use Rattle.page_tree.specs.Merging.{Offered, offer, accept, settle, mergeIn}
+use Rattle.page_tree.specs.Merging.{sparse, Offered, offer, accept, settle, mergeIn}
 use Rattle.page_tree.specs.Numbered.{Numbered, numberedDepth, joinNumbered, mergeNumbered}
 use Rattle.page_tree.proofs.WalkPlaces.{find-at}
 use Rattle.page_tree.proofs.MergingPlaces.{placed, mergeIn-at}
@@ -21,6 +21,7 @@ use Rattle.table_search.proofs.Stops.{read-entry}
 use Rattle.table_search.proofs.Descents.{descend-within, descend-inside}
 use Rattle.tree_delete.specs.Keeping.{numbersAt, Kept}
 use Rattle.tree_delete.specs.Removing.{RemovePre}
+use Rattle.tree_delete.proofs.Frames.{kept-one, kept-self, kept-then}
 use Rattle.tree_delete.proofs.SweepTurns.{paged-then}
 use Rattle.tree_delete.proofs.FoundPlaces.{found-down, found-left, found-passes, found-stops, found-numbers}
 use Rattle.tree_delete.proofs.EntryStays.{row-same, entry-kept, front-stays, rest-stays}
@@ -37,14 +38,14 @@ neither false u h = (refl, h)
 module _ {A : Type 0} (E : ℕ) (depth size : A → ℕ) (glue : A → A → A) (below : List ℕ → A → A) (ok : List ℕ → A → Bool)
     (same : (bs : List ℕ) (x : A) → ok bs x ≡ true → below bs x ≡ x) where
   abbrev tested : List ℕ → ℕ → List A → Bool
-  tested = walk depth (λ bs τ x xs. cond (ltb (4 * size x) E) false (ok bs x)) (λ x r. r) true
+  tested = walk depth (λ bs τ x xs. cond (sparse E (size x)) false (ok bs x)) (λ x r. r) true
 
   abbrev offered : List ℕ → ℕ → List A → Offered A
   offered = walk depth (λ bs τ x xs. offer E depth size glue (below bs x) xs) (accept E depth size glue) (false, [])
 
-  calm-found : (bs : List ℕ) (x : A) (xs : List A) → cond (ltb (4 * size x) E) false (ok bs x) ≡ true → offer E depth size glue (below bs x) xs ≡ (false, x ∷ xs)
+  calm-found : (bs : List ℕ) (x : A) (xs : List A) → cond (sparse E (size x)) false (ok bs x) ≡ true → offer E depth size glue (below bs x) xs ≡ (false, x ∷ xs)
   calm-found bs x xs h =
-      let k = neither (ltb (4 * size x) E) (ok bs x) h in
+      let k = neither (sparse E (size x)) (ok bs x) h in
       ap (λ (y : A). offer E depth size glue y xs) (same bs x (k .1)) ∙ ap (λ (t : Bool). (t, x ∷ xs)) (k .0)
 
   calm-walk : (bs : List ℕ) (τ : ℕ) (row : List A) → tested bs τ row ≡ true → offered bs τ row ≡ (false, row)
@@ -53,7 +54,7 @@ module _ {A : Type 0} (E : ℕ) (depth size : A → ℕ) (glue : A → A → A) 
   calm-walk (c ∷ bs) τ (x ∷ xs) h = go (ltb (depth x) c) (calm-walk (rest (depth x) c bs) (depth x) xs) h
     where
       go : (t : Bool) → (tested (rest (depth x) c bs) (depth x) xs ≡ true → offered (rest (depth x) c bs) (depth x) xs ≡ (false, xs))
-          → cond t (cond (ltb (4 * size x) E) false (ok (c ∷ bs) x)) (tested (rest (depth x) c bs) (depth x) xs) ≡ true
+          → cond t (cond (sparse E (size x)) false (ok (c ∷ bs) x)) (tested (rest (depth x) c bs) (depth x) xs) ≡ true
           → cond t (offer E depth size glue (below (c ∷ bs) x) xs) (accept E depth size glue x (offered (rest (depth x) c bs) (depth x) xs)) ≡ (false, x ∷ xs)
       go true f h = calm-found (c ∷ bs) x xs h
       go false f h = ap (accept E depth size glue x) (f h)
@@ -91,28 +92,10 @@ covered-all {e} {n} {b} {x} {bs} = record { some = omega arith; none = none-miss
 
 -- ---- one entry
 
--- One entry that stays, changed below twice.
-pub one-then : {L : Layout} {P n : ℕ} {b b₁ b₂ : List ℕ} {x : Ref} → Kept L P n b (met n (pagesAt L b) x) b₁ (x ∷ []) → Kept L P n b₁ (met n (pagesAt L b₁) x) b₂ (x ∷ [])
-    → Kept L P n b (met n (pagesAt L b) x) b₂ (x ∷ [])
-one-then {L} {P} {n} {b} {b₁} {b₂} {x} h g = record {
-  long = g .long ∙ h .long;
-  front = g .front ∙ h .front;
-  pages = λ q. omega (arith, h .pages q, g .pages q);
-  same = λ q z.
-      let e = h .same q z in
-      let u : inUse (pagesAt L b₁ q) ≡ inUse (pagesAt L b q) = ap (λ (page : List ℕ). inUse (refsOf L page)) e in
-      g .same q (omega (arith, h .pages q, u, z)) ∙ e;
-  cleared = λ q c. g .cleared q (h .cleared q c);
-  linked = g .linked;
-}
-
-one-kept : {e P n : ℕ} {b : List ℕ} {x : Ref} {w key position : ℕ} → RemovePre e P n b x w key position → Kept (layoutOf e) P n b (met n (pagesAt (layoutOf e) b) x) b (x ∷ [])
-one-kept h = record { long = refl; front = refl; pages = λ q. omega arith; same = λ q u. refl; cleared = λ q c. c; linked = (h .back .linked, tt) }
-
 -- From a page of a level under `lowest` nothing is merged.
 pub merge-low : (n : ℕ) {e P : ℕ} {b : List ℕ} {x : Ref} {w key position lowest : ℕ} → n < lowest → MergePre e P n b x w key position lowest → Merged e P n b x (leftFrom w key position) b
 merge-low n {e} {P} {b} {x} {w} {key} {position} {lowest} l h = record {
-  kept = one-kept (h .remove);
+  kept = kept-self (layoutOf e) P (suc n) b x (h .remove .back .linked);
   number = sym (page-calm e lowest n l (leftFrom w key position) (numberedAt 65535 (suc n) (pagesAt (layoutOf e) b) x) (h .covered .none));
 }
 
@@ -208,7 +191,7 @@ module _ {e P n : ℕ} {b : List ℕ} {x : Ref} {w key position τ : ℕ} (h : R
   pub merge-post : (b₂ : List ℕ) → BesidePost e P n b₁ x (s .at) b₂ → Merged e P (suc n) b x (leftFrom w key position) b₂
   unfolding numberedAt
   merge-post b₂ g = record {
-    kept = one-then above-kept (g .kept);
+    kept = kept-then above-kept (kept-one x (g .kept));
     number = g .number ∙ ap (λ (l : List (Numbered (suc n))). (x .1, l)) (row-now ∙ sym merged-is);
   }
 

@@ -14,6 +14,7 @@ use Rattle.page_tree.proofs.MergingPlaces.{placed, placed-calm, placed-first, p
 use Rattle.index_table.specs.Layout.{layoutOf, Ref}
 use Rattle.index_table.specs.Pages.{Pages, pagesAt, numberedAt}
 use Rattle.index_table.proofs.NumberedPages.{numbered-aside}
+use Rattle.table_search.specs.Places.{sparseAt}
 use Rattle.tree_delete.specs.Keeping.{numbersAt, Linked}
 use Rattle.tree_delete.proofs.Frames.{kept-self}
 use Rattle.tree_delete.proofs.LinkedDepths.{linked-depth}
@@ -67,10 +68,10 @@ module _ {e P n : ℕ} {b : List ℕ} {x : Ref} {i : ℕ} (pre : PlacePre e P n 
 
   -- ---- what is tested
 
-  sparse-is : (z : Ref) → sparse e (numberedDepth (suc n)) size (joinNumbered n) (num z) ≡ ltb (4 * length (pages (z .1))) e
-  sparse-is z = ap (λ (k : ℕ). ltb (4 * k) e) (number-size e P b n z)
+  sparse-is : (z : Ref) → sparse e (size (num z)) ≡ sparseAt e pages (z .1)
+  sparse-is z = ap (sparse e) (number-size e P b n z)
 
-  joinable-is : (k : ℕ) → suc k < length row → joinable e (numberedDepth (suc n)) size (joinNumbered n) (thing k) (thing (suc k)) ≡ joinableBelow e b x k
+  joinable-is : (k : ℕ) → suc k < length row → joinable e (numberedDepth (suc n)) size (thing k) (thing (suc k)) ≡ joinableBelow e b x k
   joinable-is k l =
       let y = entryBelow e b x k in
       let z = entryBelow e b x (suc k) in
@@ -98,7 +99,7 @@ module _ {e P n : ℕ} {b : List ℕ} {x : Ref} {i : ℕ} (pre : PlacePre e P n 
   until-suc k l = ap (numbersAt (suc n) pages) (take-suc row k (0, 0) l) ∙ map-append num (take k row) (entryBelow e b x k ∷ [])
 
   module _ (few : sparseBelow e b x i ≡ true) where
-    few-is : sparse e (numberedDepth (suc n)) size (joinNumbered n) (thing i) ≡ true
+    few-is : sparse e (size (thing i)) ≡ true
     few-is = sparse-is (entryBelow e b x i) ∙ few
 
     -- ---- the left neighbour

@@ -8,6 +8,7 @@ use lib.Dec.{ltb}
 use lib.ListN.{length}
 use Rattle.index_table.specs.Layout.{layoutOf, Ref, Within, pageBytes, countOf}
 use Rattle.index_table.specs.Pages.{pagesAt}
+use Rattle.table_search.specs.Places.{sparseAt}
 use Rattle.tree_merge.specs.Merges.{PairPre, JoinPost, PlacePre, SparsePre, LeftShut, LeftPost, RightPre, BesidePost}
 use Rattle.tree_merge.proofs.EntryReads.{rowBelow, entryBelow, readBelow, sparseBelow, joinableBelow, count-read, page-within, entry-few, pointer-read, child-within}
 use Rattle.tree_merge.proofs.NeighbourLaws.{beside-calm, beside-left, beside-last, beside-none, beside-right}
@@ -27,9 +28,9 @@ module _ {e P n : ℕ} {b : List ℕ} {x : Ref} {i : ℕ} (pre : PlacePre e P n 
     pub below-within : Within (layoutOf e) b p
     below-within = child-within (pre .back) i (pre .inside) page-is
 
-    module _ {k : ℕ} (k-is : k ≡ countOf (pageBytes (layoutOf e) b p)) {r : Bool} (r-is : r ≡ ltb (4 * k) e) where
+    module _ {r : Bool} (r-is : r ≡ sparseAt e (pagesAt (layoutOf e) b) p) where
       tested : sparseBelow e b x i ≡ r
-      tested = sym (r-is ∙ ap (λ (m : ℕ). ltb (4 * m) e) (count-read e b refl k-is page-is))
+      tested = sym (r-is ∙ ap (sparseAt e (pagesAt (layoutOf e) b)) page-is)
 
       -- A page that is not sparse stays;
       pub place-calm : r ≡ false → BesidePost e P n b x i b

@@ -3,22 +3,23 @@ use mathlib.Core.Path.{_≡_}
 use mathlib.Core.Bool.{Bool, true, false, cond, _&&_}
 use mathlib.Core.List.{List, [], _∷_, _++_}
 use Prim.Native.Nat.{ℕ, zero, suc, _+_, _*_, _≤_, _<_}
-use lib.Dec.{leb, ltb}
+use lib.Dec.{ltb}
 use lib.ListN.{length, getD, take, drop}
 use Rattle.page_tree.specs.Walk.{walk}
+use Rattle.page_tree.specs.Merging.{sparse, joinable}
 use Rattle.page_tree.specs.Numbered.{Numbered, numberedDepth, joinNumbered, mergeNumbered}
 use Rattle.page_tree.proofs.MergingPlaces.{placed}
 use Rattle.index_table.specs.Layout.{layoutOf, Ref, Within}
 use Rattle.index_table.specs.Pages.{Pages, pagesAt, numberedAt, met}
-use Rattle.table_search.specs.Places.{leftFrom}
+use Rattle.table_search.specs.Places.{sparseAt, leftFrom}
 use Rattle.tree_delete.specs.Keeping.{numbersAt, Kept}
 use Rattle.tree_delete.specs.Rows.{settled}
 use Rattle.tree_delete.specs.Unwinding.{BackPre}
 use Rattle.tree_delete.specs.Removing.{RemovePre}
 
--- Whether the pages of neighbours x and y, above level 0, may be one.
+-- Whether the pages of neighbours x and y in a row above level 0 may be one.
 abbrev pub joinableAt : ℕ → Pages → Ref → Ref → Bool
-joinableAt e pages x y = cond (ltb (y .0) (x .0)) (leb (length (pages (x .1)) + length (pages (y .1))) e) false
+joinableAt e pages x y = joinable e (λ (z : Ref). z .0) (λ (z : Ref). length (pages (z .1))) x y
 
 -- An entry of the page that p is.
 abbrev pub entryAt : Pages → ℕ → ℕ → Ref
@@ -77,24 +78,26 @@ pub record BesidePost (e P n : ℕ) (b : List ℕ) (x : Ref) (i : ℕ) (b′ : L
 -- The page of entry i is sparse.
 pub record SparsePre (e P n : ℕ) (b : List ℕ) (x : Ref) (i : ℕ) : Type 0 where
   pub place : PlacePre e P n b x i
-  pub few : ltb (4 * length (pagesAt (layoutOf e) b (entryAt (pagesAt (layoutOf e) b) (x .1) i .1))) e ≡ true
+  pub few : sparseAt e (pagesAt (layoutOf e) b) (entryAt (pagesAt (layoutOf e) b) (x .1) i .1) ≡ true
 
 -- Its left neighbour is none, or cannot be joined with it.
 abbrev pub LeftShut : ℕ → Pages → ℕ → ℕ → Type 0
 LeftShut e pages p zero = Unit {0}
 LeftShut e pages p (suc i) = joinableAt e pages (entryAt pages p i) (entryAt pages p (suc i)) ≡ false
 
+-- The left neighbour was joined, or no byte was changed since it cannot be.
 pub record LeftPost (e P n : ℕ) (b : List ℕ) (x : Ref) (i : ℕ) (b′ : List ℕ) (r : Bool) : Type 0 where
   pub done : r ≡ true → BesidePost e P n b x i b′
   pub none : r ≡ false → (b′ ≡ b) × LeftShut e (pagesAt (layoutOf e) b) (x .1) i
 
+-- So the right one is tried.
 pub record RightPre (e P n : ℕ) (b : List ℕ) (x : Ref) (i : ℕ) : Type 0 where
   pub sparse : SparsePre e P n b x i
   pub shut : LeftShut e (pagesAt (layoutOf e) b) (x .1) i
 
 -- Whether a page of level n is sparse and stands below a page of a level under `lowest`.
 abbrev pub missed : ℕ → ℕ → (n : ℕ) → Numbered (suc n) → Bool
-missed e lowest n page = ltb (suc n) lowest && ltb (4 * length (page .1)) e
+missed e lowest n page = ltb (suc n) lowest && sparse e (length (page .1))
 
 -- Whether no page below a page of level n, on the way of the key, is so: then nothing is to be joined below pages of a level under `lowest`.
 abbrev pub noneMissed : ℕ → ℕ → (n : ℕ) → List ℕ → Numbered (suc n) → Bool

@@ -1,7 +1,6 @@
 // Merging below a page: figure 12 along the way of a key, from level 0 up.
 ghost use mathlib.Core.Path.{_≡_};
-ghost use Prim.Native.Nat.{suc, _*_, _<_};
-ghost use lib.Dec.{ltb};
+ghost use Prim.Native.Nat.{suc, _<_};
 ghost use Rattle.index_table.specs.Layout.{layoutOf};
 ghost use Rattle.index_table.specs.Pages.{pagesAt};
 ghost use Rattle.table_search.specs.Places.{leftFrom};
@@ -18,20 +17,14 @@ use index_write::write::free_page;
 use index_write::write::store_page;
 use page_tree::Unwind;
 use table_search::seek;
+use table_search::sparse;
 use tree_delete::rows::Swept;
 use tree_delete::rows::joined;
 use tree_delete::rows::pointer_to;
 use tree_delete::rows::put;
 use tree_delete::rows::settle;
 
-// Whether n entries are fewer than a quarter of those that a page may hold.
-fn sparse(e: u8, n: u8) -> bool
-    ensures { λ r. ⌜ r ≡ ltb (4 * n) e ⌝ }
-{
-    4 * wide(n) < wide(e)
-}
-
-// The entries of a page behind those of another, which is left of it; the page is free then.
+// Stores the entries of a page behind those of the page left of it, and frees the page.
 fn gather(index: &mut [u8], e: u8, level: u8, left: PageNo, right: PageNo)
     requires { ⌜ GatherPre e (now index) (left .0) (right .0) ⌝ }
     ensures { λ r. ⌜ now (index .exit) ≡ gathered e level (now (index .entry)) (left .0) (right .0) ⌝ }
@@ -44,7 +37,7 @@ fn gather(index: &mut [u8], e: u8, level: u8, left: PageNo, right: PageNo)
     free_page(index, e, right);
 }
 
-// Whether the pages of entries j and j + 1 of a page of a level + 1 may be one: the left one ends deeper, and both fit.
+// Says whether the pages of entries j and j + 1 of a page of level + 1 may be one: the left one ends deeper, and both fit.
 fn joinable(index: &[u8], e: u8, pages: u16, level: u8, d: u8, page: PageNo, j: usize) -> bool
     requires { ⌜ PairPre e pages level (now index) (d, page .0) j ⌝ }
     ensures { λ r. ⌜ r ≡ joinableAt e (pagesAt (layoutOf e) (now (index .entry))) (entryAt (pagesAt (layoutOf e) (now (index .entry))) (page .0) j) (entryAt (pagesAt (layoutOf e) (now (index .entry))) (page .0) (suc j)) ⌝ }
@@ -59,7 +52,7 @@ fn joinable(index: &[u8], e: u8, pages: u16, level: u8, d: u8, page: PageNo, j: 
     wide(count(index, e, left)) + wide(count(index, e, right)) <= wide(e)
 }
 
-// The pages of entries j and j + 1 of a page of a level + 1 become one, under the number of the left one.
+// Makes one page of those of entries j and j + 1 of a page of level + 1, under the number of the left one and with the entry of the right one's depth.
 fn join(index: &mut [u8], e: u8, pages: u16, level: u8, d: u8, page: PageNo, j: usize)
     requires { ⌜ JoinPre e pages level (now index) (d, page .0) j × (level < 255) ⌝ }
     ensures { λ r. ⌜ JoinPost e pages level (now (index .entry)) (d, page .0) j (now (index .exit)) ⌝ }
@@ -85,7 +78,7 @@ fn join(index: &mut [u8], e: u8, pages: u16, level: u8, d: u8, page: PageNo, j: 
     let was = settle(index, e, level + 1, page, done);
 }
 
-// The page of entry `at` of a page of level + 1 is joined with its left neighbour, where it may be; whether it is.
+// Joins the page of entry `at` of a page of level + 1 with its left neighbour where they may be one, and returns whether it did.
 fn join_left(index: &mut [u8], e: u8, pages: u16, level: u8, d: u8, page: PageNo, at: usize) -> bool
     requires { ⌜ SparsePre e pages level (now index) (d, page .0) at × (level < 255) ⌝ }
     ensures { λ r. ⌜ LeftPost e pages level (now (index .entry)) (d, page .0) at (now (index .exit)) r ⌝ }
@@ -101,7 +94,7 @@ fn join_left(index: &mut [u8], e: u8, pages: u16, level: u8, d: u8, page: PageNo
     true
 }
 
-// The same with its right neighbour, where the left one cannot be joined.
+// Joins it with its right neighbour where they may be one; the left one cannot be joined.
 fn join_right(index: &mut [u8], e: u8, pages: u16, level: u8, d: u8, page: PageNo, at: usize)
     requires { ⌜ RightPre e pages level (now index) (d, page .0) at × (level < 255) ⌝ }
     ensures { λ r. ⌜ BesidePost e pages level (now (index .entry)) (d, page .0) at (now (index .exit)) ⌝ }
@@ -115,13 +108,13 @@ fn join_right(index: &mut [u8], e: u8, pages: u16, level: u8, d: u8, page: PageN
     join(index, e, pages, level, d, page, at);
 }
 
-// The page of entry `at` of a page of level + 1 is joined with a neighbour, where it is sparse.
+// Joins the page of entry `at` of a page of level + 1 with a neighbour, where it is sparse and they may be one: the left one, or else the right one.
 fn join_beside(index: &mut [u8], e: u8, pages: u16, level: u8, d: u8, page: PageNo, at: usize)
     requires { ⌜ PlacePre e pages level (now index) (d, page .0) at × (level < 255) ⌝ }
     ensures { λ r. ⌜ BesidePost e pages level (now (index .entry)) (d, page .0) at (now (index .exit)) ⌝ }
 {
     let below = child(index, e, page, at);
-    if !sparse(e, count(index, e, below)) {
+    if !sparse(index, e, below) {
         return;
     }
     if join_left(index, e, pages, level, d, page, at) {
@@ -130,8 +123,8 @@ fn join_beside(index: &mut [u8], e: u8, pages: u16, level: u8, d: u8, page: Page
     join_right(index, e, pages, level, d, page, at);
 }
 
-// From a page of a level, whose last depth is d, down to the page that covers a key, and back up: level by level a page there is joined with a neighbour.
-// Pages below the level `lowest` are not looked at.
+// Goes from a page of a level, whose last depth is d, down to the page that covers a key, and joins on the way back, level by level, a sparse page with a
+// neighbour. Below a page of a level under `lowest` nothing is to be joined.
 pub fn merge(
     index: &mut [u8],
     e: u8,

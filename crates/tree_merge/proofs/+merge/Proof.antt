@@ -57,7 +57,9 @@ merge-child-requires t c κs =
 
 merge-sub-merge : (t : ℕ) → merge-lts.Need-sub-merge (merge-claims t) (merge-at t) merge.Post
 merge-sub-merge t c =
-    let tested = c .before .before .before .before .before .before .before in
+    let child = c .before in
+    let seek = child .before .before .before .before in
+    let tested = seek .before .before in
     omega (arith, merge-above (tested .before .before .pre .1) (tested .if1 .left))
 
 merge-merge-requires : (t : ℕ) → merge-lts.Need-merge-requires (merge-claims t) (merge-at t) merge.Post
@@ -72,7 +74,10 @@ merge-merge-requires t c κs =
 
 merge-sub-join-beside : (t : ℕ) → merge-lts.Need-sub-join-beside (merge-claims t) (merge-at t) merge.Post
 merge-sub-join-beside t c =
-    let tested = c .before .before .before .before .before .before .before .before .before .before .before in
+    let merged = c .before .before .before in
+    let child = merged .before .before in
+    let seek = child .before .before .before .before in
+    let tested = seek .before .before in
     omega (arith, merge-above (tested .before .before .pre .1) (tested .if1 .left))
 
 merge-join-beside-requires : (t : ℕ) → merge-lts.Need-join-beside-requires (merge-claims t) (merge-at t) merge.Post
@@ -92,13 +97,14 @@ merge-same-length t c = search needs
 
 merge-returns-2 : (t : ℕ) → merge-lts.Need-returns-2 (merge-claims t) (merge-at t) merge.Post
 merge-returns-2 t c =
-    let merge = c .before .before .before .before .before .before in
+    let joined = c .before .before in
+    let merge = joined .before .before .before .before in
     let child = merge .before .before in
     let depth = child .before .before in
     let seek = depth .before .before in
     let tested = seek .before .before in
     let start = tested .before .before in
-    merge-up _ (start .pre .1) _ (seek .seek .ensures) (merge-above (start .pre .1) (tested .if1 .left)) (depth .depth .ensures) (child .child .ensures) (merge .merge .ensures) (c .before .before .join-beside .ensures)
+    merge-up _ (start .pre .1) _ (seek .seek .ensures) (merge-above (start .pre .1) (tested .if1 .left)) (depth .depth .ensures) (child .child .ensures) (merge .merge .ensures) (joined .join-beside .ensures)
 
 pub +merge-spec : {M : Type 1} → statement M
 +merge-spec = close μ-merge λ t. merge-lts.spec (merge-claims t)

@@ -8,13 +8,10 @@ use Rattle.tree_merge.proofs.join_beside.Tie as tie
 child-requires : tie.Need-child-requires
 child-requires c κs = place-read (c .before .before .pre .0)
 
-count-requires : tie.Need-count-requires
-count-requires c κs =
+sparse-requires : tie.Need-sparse-requires
+sparse-requires c κs =
     let below = c .before in
     below-within (below .before .before .before .pre .0) (below .child .ensures)
-
-sparse-requires : tie.Need-sparse-requires
-sparse-requires c κs = search needs
 
 same-length : tie.Need-same-length
 same-length c = search needs
@@ -22,19 +19,17 @@ same-length c = search needs
 returns : tie.Need-returns
 returns c =
     let asked = c .before in
-    let counted = asked .before in
-    let below = counted .before .before in
+    let below = asked .before .before in
     let start = below .before .before .before in
-    place-calm (start .pre .0) (below .child .ensures) (counted .count .ensures) (asked .sparse .ensures) (not-true _ (c .if1 .taken))
+    place-calm (start .pre .0) (below .child .ensures) (asked .sparse .ensures) (not-true _ (c .if1 .taken))
 
 join-left-requires : tie.Need-join-left-requires
 join-left-requires c κs =
     let few = c .before in
     let asked = few .before in
-    let counted = asked .before in
-    let below = counted .before .before in
+    let below = asked .before .before in
     let start = below .before .before .before in
-    (place-sparse (start .pre .0) (below .child .ensures) (counted .count .ensures) (asked .sparse .ensures) (not-false _ (few .if1 .left)), start .pre .1)
+    (place-sparse (start .pre .0) (below .child .ensures) (asked .sparse .ensures) (not-false _ (few .if1 .left)), start .pre .1)
 
 same-length-2 : tie.Need-same-length-2
 same-length-2 c = search needs
@@ -50,10 +45,9 @@ join-right-requires c κs =
     let left = none .before .before .before in
     let few = left .before .before in
     let asked = few .before in
-    let counted = asked .before in
-    let below = counted .before .before in
+    let below = asked .before .before in
     let start = below .before .before .before in
-    let sparse = place-sparse (start .pre .0) (below .child .ensures) (counted .count .ensures) (asked .sparse .ensures) (not-false _ (few .if1 .left)) in
+    let sparse = place-sparse (start .pre .0) (below .child .ensures) (asked .sparse .ensures) (not-false _ (few .if1 .left)) in
     (then-right sparse (left .join-left .ensures .none (none .if2 .left)), start .pre .1)
 
 same-length-3 : tie.Need-same-length-3
@@ -71,7 +65,6 @@ join-beside-spec =
     tie.close
     (tie.spec
     child-requires
-    count-requires
     sparse-requires
     same-length
     returns
