@@ -22,6 +22,7 @@ pub mod MergingRows
 pub mod MergingMaps
 pub mod MergingLaws
 pub mod MergingPlaces
+pub mod MergingExamples
 pub mod DeletionTrees
 pub mod DeletionPages
 pub mod LastAlone
