@@ -98,8 +98,8 @@ struct tag_index_answer tag_index_on(uint8_t *index, size_t index_bytes,
                                      uint8_t *used, size_t used_length,
                                      uint64_t key, uint32_t record);
 
-/* Off: the key is held no more; its record and any emptied pages are free.
-   Refused by 1, 2, 6. */
+/* Off: the key is held no more; its record is free, and so are the pages that
+   are emptied and those whose entries go to a neighbour. Refused by 1, 2, 6. */
 struct tag_index_answer tag_index_off(uint8_t *index, size_t index_bytes,
                                       uint64_t *keys, size_t keys_length,
                                       uint8_t *used, size_t used_length,
