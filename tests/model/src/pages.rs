@@ -107,14 +107,14 @@ impl Page {
 }
 
 /// The tree under `root` after a change of its leaf list, where a page may
-/// hold `most` entries.
+/// hold `most` entries. The root rule of a deletion is left to [`lowered`].
 pub fn changed(root: Page, change: &Change, most: usize) -> Page {
     let mut tops = parts(root, change, &mut 0, most);
     while tops.len() > 1 {
         // "Above a cut root comes a new root, itself cut while too long."
         tops = cut(Page::new(None, Row::Children(tops)), most);
     }
-    lowered(tops.pop().expect("the leaf list is never empty"))
+    tops.pop().expect("the leaf list is never empty")
 }
 
 /// What becomes of a page: none if it is emptied, several if it is cut. `next`
@@ -171,9 +171,9 @@ fn cut_row<T>(mut row: Vec<T>, depth: fn(&T) -> usize, most: usize) -> Vec<Vec<T
     parts
 }
 
-/// "While the root is above level 0 with one entry, its child becomes root and
-/// the old root is freed."
-fn lowered(root: Page) -> Page {
+/// The root rule: "while the root is above level 0 with one entry, its child
+/// becomes root and the old root is freed."
+pub fn lowered(root: Page) -> Page {
     match root.row {
         Row::Children(mut children) if children.len() == 1 => lowered(children.remove(0)),
         row => Page::new(root.number, row),
