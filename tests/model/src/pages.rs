@@ -72,6 +72,22 @@ impl Page {
         }
     }
 
+    /// The page of level 0 that holds the leaf at this place, counted from the
+    /// first under this page, and all pages above it up to this one.
+    pub fn over(&self, place: usize) -> Vec<&Page> {
+        let mut pages = Vec::new();
+        if let Row::Children(children) = &self.row {
+            let (mut at, mut place) = (0, place);
+            while place >= children[at].leaves().len() {
+                place -= children[at].leaves().len();
+                at += 1;
+            }
+            pages = children[at].over(place);
+        }
+        pages.push(self);
+        pages
+    }
+
     /// The walk from this page down to a leaf. The position list goes on in
     /// the child from the place `first` that it has come to in the parent.
     pub fn walk(&self, positions: &[usize], first: usize) -> Entry {

@@ -7,7 +7,7 @@ mod common;
 use borders::{borders, merged, Borders, Order, Rule, Seen, Side, REQUESTED};
 use common::seeds;
 use model::index::Index;
-use model::pages::{lowered, Page, Row};
+use model::pages::{lowered, Page};
 use model::random::sound_tables::any_sound_index;
 use model::random::Random;
 use model::search::search;
@@ -51,22 +51,8 @@ fn by(rule: &Rule, off: &Off) -> (Borders, Seen) {
 
 /// The numbers of the page of level 0 that holds the leaf at `place`, and of
 /// all pages above it, the root last.
-fn over(page: &Page, place: usize) -> Vec<u32> {
-    let number = page.number.expect("a stored page has a number");
-    let Row::Children(children) = &page.row else {
-        return vec![number];
-    };
-    let mut place = place;
-    let holds = |child: &&Page| {
-        let leaves = child.leaves().len();
-        let here = place < leaves;
-        place = if here { place } else { place - leaves };
-        here
-    };
-    let child = children.iter().find(holds).expect("a leaf of this page");
-    let mut numbers = over(child, place);
-    numbers.push(number);
-    numbers
+fn over(root: &Page, place: usize) -> Vec<Option<u32>> {
+    root.over(place).iter().map(|page| page.number).collect()
 }
 
 /// What an off met besides what its pages met when they were looked at.
