@@ -1,7 +1,7 @@
 //! Merging: what an accepted off does between taking its entries out and the
 //! root rule. Quoted words are those of "Pages that never fill again".
 
-use crate::bits::{bits, number};
+use crate::bits::bits;
 use crate::leaf_list::{next_discriminator, Entry};
 use crate::pages::{Page, Row};
 
@@ -26,7 +26,8 @@ fn covering(leaves: &[Entry], key: &[bool]) -> usize {
             return place;
         }
         bound = next_discriminator(&bound, leaf.depth);
-        if number(key) < number(&bound) {
+        // Strings of one length stand in order as their numbers do.
+        if *key < bound[..] {
             return place;
         }
     }
