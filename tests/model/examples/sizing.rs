@@ -243,7 +243,7 @@ fn steady_herd(
     (most, index.herd().into_keys().collect())
 }
 
-/// Who comes to market next: what it is called, and the tags.
+/// Who comes to market next: what it is called, and the tags that come.
 type Comers = (&'static str, fn(&mut Random) -> Vec<u64>);
 
 const COMERS: [Comers; 2] = [
@@ -265,9 +265,9 @@ struct Market {
 }
 
 impl Market {
-    fn new(e: usize, p: usize, records: usize, merging: bool) -> Market {
+    fn new(seed: u64, (e, p): (usize, usize), records: usize, merging: bool) -> Market {
         Market {
-            random: Random::new(0),
+            random: Random::new(seed),
             index: Index::empty(64, e, p, records),
             held: Vec::new(),
             free: (0..records as u64).rev().collect(),
@@ -331,7 +331,7 @@ fn years() {
         {
             let mut first = 0;
             let [with, without] = [true, false].map(|merging| {
-                let mut market = Market::new(e, 65_534, peak, merging);
+                let mut market = Market::new(0, (e, 65_534), peak, merging);
                 for year in 0..4 {
                     market.grow(comers, peak);
                     first = if year == 0 { market.pages() } else { first };
@@ -355,24 +355,33 @@ fn years() {
 }
 
 /// Four years at 4,096 records of a herd that grows until an on is declined by
-/// 7, or no record is free, and of which all but a tenth is sold then.
-fn years_to_the_last_page() {
+/// 7, or no record is free, and of which all but a tenth is sold then; of each
+/// year the fewest by seed.
+fn years_to_the_last_page(seeds: u64) {
     println!("## W 64, 4,096 records, grown until the first on is declined and sold one by one to a tenth: tags held then");
     println!("| herd | E | P | merging | first year | second | third | fourth |");
     println!("|---|---:|---:|---|---:|---:|---:|---:|");
     for (name, comers) in COMERS {
-        for ((e, p), merging) in [(60, 250), (120, 125)]
-            .map(|table| [(table, true), (table, false)])
-            .concat()
-        {
+        for (e, p, merging) in [
+            (60, 250, true),
+            (60, 250, false),
+            (120, 125, true),
+            (120, 125, false),
+        ] {
             let with = if merging { "with" } else { "without" };
             print!("| {name} | {e} | {p} | {with} |");
-            let mut market = Market::new(e, p, 4_096, merging);
-            for _ in 0..4 {
-                let row = market.grow(comers, 4_096);
+            let mut least = [(usize::MAX, None); 4];
+            for seed in 0..seeds {
+                let mut market = Market::new(seed, (e, p), 4_096, merging);
+                for least in &mut least {
+                    let row = market.grow(comers, 4_096);
+                    *least = (*least).min((market.held.len(), row));
+                    market.sell(market.held.len() / 10);
+                }
+            }
+            for (held, row) in least {
                 let by = row.map_or("the register".to_string(), |row| row.to_string());
-                print!(" {} ({by}) |", market.held.len());
-                market.sell(market.held.len() / 10);
+                print!(" {held} ({by}) |");
             }
             println!();
         }
@@ -440,6 +449,6 @@ fn main() {
     records_4096(120, 125, 4);
     churn();
     years();
-    years_to_the_last_page();
+    years_to_the_last_page(2);
     greedy();
 }

@@ -3,7 +3,7 @@
 
 use crate::bits::bits;
 use crate::leaf_list::{next_discriminator, Entry};
-use crate::pages::{Page, Row};
+use crate::pages::{child_over, Page, Row};
 
 /// The tree under `root`, where a page may hold `most` entries, after merging.
 /// "After an accepted off, take the level 0 page that now covers the removed
@@ -42,11 +42,7 @@ fn merge_below(page: &mut Page, place: usize, most: usize) {
     let Row::Children(children) = &mut page.row else {
         return;
     };
-    let (mut at, mut place) = (0, place);
-    while place >= children[at].leaves().len() {
-        place -= children[at].leaves().len();
-        at += 1;
-    }
+    let (at, place) = child_over(children, place);
     merge_below(&mut children[at], place, most);
     merge(children, at, most);
 }

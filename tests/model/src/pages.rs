@@ -75,17 +75,23 @@ impl Page {
     /// The page of level 0 that holds the leaf at this place, counted from the
     /// first under this page, and all pages above it up to this one.
     pub fn over(&self, place: usize) -> Vec<&Page> {
-        let mut pages = Vec::new();
-        if let Row::Children(children) = &self.row {
-            let (mut at, mut place) = (0, place);
-            while place >= children[at].leaves().len() {
-                place -= children[at].leaves().len();
-                at += 1;
+        let mut pages = match &self.row {
+            Row::Leaves(_) => vec![],
+            Row::Children(children) => {
+                let (at, place) = child_over(children, place);
+                children[at].over(place)
             }
-            pages = children[at].over(place);
-        }
+        };
         pages.push(self);
         pages
+    }
+
+    /// How many leaves stand under the page.
+    fn leaf_count(&self) -> usize {
+        match &self.row {
+            Row::Leaves(leaves) => leaves.len(),
+            Row::Children(children) => children.iter().map(Page::leaf_count).sum(),
+        }
     }
 
     /// The walk from this page down to a leaf. The position list goes on in
@@ -120,6 +126,18 @@ impl Page {
             }
         }
     }
+}
+
+/// Which of these pages, side by side, holds the leaf at this place, counted
+/// from the first under the first page, and the leaf's place counted from the
+/// first under that page.
+pub fn child_over(children: &[Page], place: usize) -> (usize, usize) {
+    let (mut at, mut place) = (0, place);
+    while place >= children[at].leaf_count() {
+        place -= children[at].leaf_count();
+        at += 1;
+    }
+    (at, place)
 }
 
 /// The tree under `root` after a change of its leaf list, where a page may

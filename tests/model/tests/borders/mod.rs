@@ -167,8 +167,8 @@ impl Tree {
                 fits && pair.deeper >= rule.deeper && pair.one_parent >= rule.one_parent
             })
         };
-        let lefts = rule.sides.iter().copied().filter_map(left_of);
-        let Some(left) = lefts.clone().find(joins) else {
+        let mut lefts = rule.sides.iter().copied().filter_map(left_of);
+        let Some(left) = lefts.find(joins) else {
             return false;
         };
         self.join(level, left);
