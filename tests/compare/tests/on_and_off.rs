@@ -149,7 +149,7 @@ fn larger_herds() {
         let entries = *random.pick(&[5, 20, 60, 255]);
         let width = random.between(32, 64);
         let tables = Tables::of(&sound_index(&mut random, width, entries, 300));
-        let held: Vec<u64> = (0..300)
+        let mut held: Vec<u64> = (0..300)
             .filter(|&record| tables.used[record] == 1)
             .map(|record| tables.keys[record])
             .collect();
@@ -157,13 +157,17 @@ fn larger_herds() {
         for _ in 0..4 {
             let change = some_change(&mut random, &tables);
             same::change(&tables, change, &mut met, &what);
-            if !held.is_empty() {
-                let off = Call::Off(*random.pick(&held));
-                same::change(&tables, off, &mut met, &what);
-            }
+        }
+        random.shuffle(&mut held);
+        for &key in held.iter().take(20) {
+            same::change(&tables, Call::Off(key), &mut met, &what);
         }
     }
     met.assert(10, &["on 0", "off 0"]);
+    met.assert(
+        30,
+        &["joined left", "joined right", "joined above level 0 alone"],
+    );
 }
 
 /// The most pages and the most records, both in use anywhere.
