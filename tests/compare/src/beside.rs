@@ -12,6 +12,7 @@ use model::table::Tables;
 /// Makes the call; describes how it differs from the model's. The answer and
 /// the list slice must be the same, and every byte too, but after a done on:
 /// then the tables are the same up to page numbers, and these are as specified.
+/// After a done off the left one of two joined pages keeps its number in both.
 pub fn beside(tables: &mut Tables, made: &Call, met: &mut Met) -> Result<Outcome, String> {
     let before = tables.clone();
     let mut model = tables.clone();

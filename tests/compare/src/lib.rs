@@ -4,6 +4,7 @@
 pub mod beside;
 pub mod calls;
 pub mod list;
+pub mod merges;
 pub mod met;
 pub mod numbers;
 pub mod program;

@@ -2,7 +2,9 @@
 
 use model::answer::Answer;
 use model::history::{Call, Outcome};
-use model::table::{header, page_bytes, Tables};
+use model::index::Index;
+use model::pages::Page;
+use model::table::{header, page_bytes, read, Tables};
 use std::collections::BTreeMap;
 
 /// How often each thing was met.
@@ -27,14 +29,18 @@ pub fn levels(tables: &Tables) -> Levels {
     levels
 }
 
-/// What `add_pages` can find.
-pub const PAGE_CHANGES: [&str; 12] = [
+/// What `add_cuts` can find.
+pub const CUTS: [&str; 6] = [
     "no cut",
     "one page taken",
     "pages taken",
     "parent cut",
     "new root",
     "new root cut",
+];
+
+/// What `add_off` can find besides `MERGES`.
+pub const EMPTIED: [&str; 6] = [
     "no page emptied",
     "page emptied",
     "pages emptied",
@@ -70,21 +76,18 @@ impl Met {
     /// The call and its answer and, of a done on or off, what became of pages.
     pub fn add_call(&mut self, before: &Tables, after: &Tables, made: &Call, outcome: &Outcome) {
         self.add_answer(made, outcome);
-        let changes = matches!(made, Call::On(..) | Call::Off(..));
-        if changes && *outcome == Outcome::Answered(Answer::done()) {
-            self.add_pages(made, &levels(before), &levels(after));
+        if *outcome != Outcome::Answered(Answer::done()) {
+            return;
         }
-    }
-
-    /// What became of the pages by a done on or off.
-    pub fn add_pages(&mut self, made: &Call, before: &Levels, after: &Levels) {
         match made {
-            Call::On(..) => self.add_cuts(before, after),
-            _ => self.add_emptied(before, after),
+            Call::On(..) => self.add_cuts(&levels(before), &levels(after)),
+            Call::Off(key) => self.add_off(&read(before.lent()), *key),
+            _ => {}
         }
     }
 
-    fn add_cuts(&mut self, before: &Levels, after: &Levels) {
+    /// What became of the pages by a done on.
+    pub fn add_cuts(&mut self, before: &Levels, after: &Levels) {
         self.add(match pages(after).saturating_sub(pages(before)) {
             0 => "no cut",
             1 => "one page taken",
@@ -100,20 +103,30 @@ impl Met {
         }
     }
 
-    fn add_emptied(&mut self, before: &Levels, after: &Levels) {
-        self.add(match before[0].saturating_sub(after[0]) {
+    /// What became of the pages by a done off of a key held in `before`: the
+    /// emptied ones are those that are gone before any are merged.
+    pub fn add_off(&mut self, before: &Index, key: u64) {
+        let left = before.taken_out(key);
+        let count = |root: &Page, level| {
+            let pages = root.pages().into_iter();
+            pages.filter(|page| page.level() == level).count()
+        };
+        self.add(match count(&before.root, 0) - count(&left, 0) {
             0 => "no page emptied",
             1 => "page emptied",
             _ => "pages emptied",
         });
-        if parents(after, after.len()) < parents(before, after.len()) {
+        if (1..=left.level()).any(|level| count(&left, level) < count(&before.root, level)) {
             self.add("parent emptied");
         }
-        match before.len().saturating_sub(after.len()) {
+        let mut after = before.clone();
+        after.off(key).expect("a held key");
+        match before.root.level() - after.root.level() {
             0 => {}
             1 => self.add("root lowered"),
             _ => self.add("root lowered further"),
         }
+        self.add_merges(before, key);
     }
 
     /// Each of these was met so many times at least.

@@ -2,7 +2,7 @@
 
 use model::history::Call;
 use model::random::keys::{key, largest_key, SPREADS};
-use model::random::sound_tables::sound_index;
+use model::random::sound_tables::{any_sound_index, ENTRIES};
 use model::random::Random;
 use model::table::Tables;
 use std::ops::Range;
@@ -16,10 +16,9 @@ pub fn seeds(count: u64) -> Range<u64> {
 
 /// Sound tables with random borders between pages.
 pub fn sound_tables(random: &mut Random) -> Tables {
-    let width = random.between(1, 64);
-    let entries = *random.pick(&[2, 2, 2, 3, 4, 5, 8, 20, 255]);
-    let records = random.between(1, 24);
-    Tables::of(&sound_index(random, width, entries, records))
+    let large = random.percent(8).then_some([255]);
+    let entries = large.as_ref().map_or(&ENTRIES[..], |large| large);
+    Tables::of(&any_sound_index(random, entries))
 }
 
 /// W as the header has it, or 64 if it is none.

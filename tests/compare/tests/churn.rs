@@ -6,7 +6,8 @@
 //! model's up to page numbers.
 
 use compare::calls::call;
-use compare::met::{levels, Met, PAGE_CHANGES};
+use compare::merges::MERGES;
+use compare::met::{levels, Met, CUTS, EMPTIED};
 use compare::supply::seeds;
 use compare::tag_index;
 use model::answer::Answer;
@@ -54,6 +55,7 @@ impl Run {
         self.before.keys.copy_from_slice(&self.tables.keys);
         self.before.used.copy_from_slice(&self.tables.used);
         let outcome = call(&mut self.tables, made);
+        let model = self.model.clone().filter(|_| matches!(made, Call::Off(_)));
         let expected = match made {
             Call::On(key, record) => self.expected_on(*key, *record, &outcome),
             Call::Off(key) => self.expected_off(*key)?,
@@ -62,15 +64,22 @@ impl Run {
         if outcome != expected {
             return Err(format!("{made:?}: {outcome:?}, not {expected:?}"));
         }
-        let changes = matches!(made, Call::On(..) | Call::Off(..));
         let refused = |number| outcome == Outcome::Answered(Answer::refusal(number));
         self.no_room = refused(7) || refused(8);
         self.met.add_answer(made, &outcome);
-        if changes && outcome == Outcome::Answered(Answer::done()) {
-            let (before, after) = (levels(&self.before), levels(&self.tables));
-            self.met.add_pages(made, &before, &after);
-        } else if self.tables != self.before {
-            return Err(format!("{made:?} changed a byte"));
+        let done = outcome == Outcome::Answered(Answer::done());
+        match made {
+            Call::On(..) if done => {
+                let (before, after) = (levels(&self.before), levels(&self.tables));
+                self.met.add_cuts(&before, &after);
+            }
+            Call::Off(key) if done => {
+                // What became of its pages is told where the model goes along.
+                let before = model.iter();
+                before.for_each(|before| self.met.add_off(before, *key));
+            }
+            _ if self.tables != self.before => return Err(format!("{made:?} changed a byte")),
+            _ => {}
         }
         Ok(())
     }
@@ -299,7 +308,9 @@ fn small_pages(width: usize, entries: usize, pages: usize, records: usize) -> Me
         100,
         &["off 0", "off 6", "find 0", "find 6", "list 0", "check true"],
     );
-    met.assert(100, &PAGE_CHANGES);
+    met.assert(100, &CUTS);
+    // Told where the model goes along.
+    met.assert(10, &EMPTIED);
     met
 }
 
@@ -325,6 +336,17 @@ fn four_entries_a_page() {
 fn five_entries_a_page() {
     let met = small_pages(40, 5, 60, 36);
     met.assert(100, &["on 2", "off 2"]);
+    // One entry makes a page of E one over E, and two entries are not sparse.
+    let never = ["neighbour further over E", "joined and still sparse"];
+    let merges = MERGES.into_iter().filter(|what| !never.contains(what));
+    met.assert(20, &merges.collect::<Vec<&str>>());
+}
+
+#[test]
+fn nine_entries_a_page() {
+    let met = small_pages(48, 9, 40, 60);
+    met.assert(100, &["on 2", "off 2"]);
+    met.assert(20, &MERGES);
 }
 
 /// W 64, E 60, P 250, 4,096 records.
@@ -344,5 +366,6 @@ fn the_day_books_tables() {
     };
     let met = churn.run(seeds(1).start, 200_000);
     met.assert(100, &["on 0", "on 3", "on 4", "on 5", "off 0", "off 6"]);
-    met.assert(100, &["one page taken", "page emptied"]);
+    met.assert(100, &["one page taken"]);
+    met.assert(10, &["joined left", "joined right"]);
 }

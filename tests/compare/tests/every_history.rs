@@ -2,7 +2,8 @@
 //! make, changed by each key, beside the model.
 
 use compare::beside::beside;
-use compare::met::{Met, PAGE_CHANGES};
+use compare::merges::MERGES;
+use compare::met::{Met, CUTS, EMPTIED};
 use compare::tag_index;
 use model::answer::Answer;
 use model::history::{Call, Outcome};
@@ -54,6 +55,8 @@ fn every_history_of_few_bits() {
         let trees = explore(width, entries, &mut met);
         assert!(trees >= 1 << (1 << width), "a tree for every herd at least");
     }
-    met.assert(10, &PAGE_CHANGES);
-    met.assert_only(&[&["on 0", "off 0"], &PAGE_CHANGES[..]].concat());
+    met.assert(10, &CUTS);
+    met.assert(10, &EMPTIED);
+    met.assert(10, &["joined left", "joined right", "no page sparse"]);
+    met.assert_only(&[&["on 0", "off 0"], &CUTS[..], &EMPTIED, &MERGES].concat());
 }

@@ -3,7 +3,8 @@
 //! model's, and all that is claimed of histories holds.
 
 use compare::beside::beside;
-use compare::met::{Met, PAGE_CHANGES};
+use compare::merges::MERGES;
+use compare::met::{Met, CUTS, EMPTIED};
 use compare::supply::seeds;
 use model::history::{follow_from, Call, Failure, History, Shape};
 use model::map::Map;
@@ -65,10 +66,12 @@ fn hold(seed: u64, history: &History, met: &mut Met) {
 fn any_shape(random: &mut Random) -> Shape {
     Shape {
         width: random.between(1, 64),
-        entries: match random.below(4) {
+        entries: match random.below(6) {
             0 => 2,
-            1 => random.between(3, 6),
-            2 => random.between(7, 30),
+            1 => random.between(2, 4),
+            // From 5 on a page of one entry has fewer than a quarter.
+            2 | 3 => random.between(5, 12),
+            4 => random.between(13, 30),
             _ => random.between(31, 255),
         },
         pages: match random.below(4) {
@@ -93,7 +96,12 @@ fn shapes_of_all_kinds() {
         hold(seed, &history(&mut random, shape, 120), &mut met);
     }
     met.assert(5, &ANSWERS);
-    met.assert(5, &PAGE_CHANGES);
+    met.assert(
+        5,
+        &["joined left", "joined right", "root lowered by a join"],
+    );
+    met.assert(5, &CUTS);
+    met.assert(5, &EMPTIED);
 }
 
 #[test]
@@ -111,7 +119,8 @@ fn every_width_with_two_entries_a_page() {
             hold(seed, &history(&mut random, shape, 80), &mut met);
         }
     }
-    met.assert(5, &PAGE_CHANGES);
+    met.assert(5, &CUTS);
+    met.assert(5, &EMPTIED);
     met.assert(3, &["on 7", "on 8"]);
 }
 
@@ -150,6 +159,28 @@ fn few_and_many_entries_a_page() {
     }
     met.assert(10, &["on 0", "off 0", "pages taken", "page emptied"]);
     met.assert(5, &["new root", "root lowered"]);
+    met.assert(
+        5,
+        &["joined left", "joined right", "joined and still sparse"],
+    );
+}
+
+/// Herds that are sold out, in pages that are joined while they are.
+#[test]
+fn herds_sold_out() {
+    let mut met = Met::default();
+    for seed in seeds(100) {
+        let mut random = Random::new(seed);
+        let shape = Shape {
+            width: random.between(50, 64),
+            entries: random.between(5, 12),
+            pages: 150,
+            records: 30,
+        };
+        let history = growing_and_shrinking(&mut random, shape);
+        hold(seed, &history, &mut met);
+    }
+    met.assert(3, &MERGES);
 }
 
 #[test]
@@ -167,7 +198,7 @@ fn large_pages() {
         hold(seed, &history, &mut met);
     }
     met.assert(3, &["new root", "root lowered"]);
-    met.assert(4, &["one page taken", "page emptied"]);
+    met.assert(4, &["one page taken", "joined left", "joined right"]);
 }
 
 #[test]

@@ -2,7 +2,8 @@
 //! sides.
 
 use compare::beside::beside;
-use compare::met::{Met, PAGE_CHANGES};
+use compare::merges::MERGES;
+use compare::met::{Met, CUTS, EMPTIED};
 use compare::supply::{seeds, some_change, sound_tables};
 use compare::{same, tag_index};
 use model::answer::Answer;
@@ -12,7 +13,7 @@ use model::map::Map;
 use model::random::histories::calls;
 use model::random::keys::{key, largest_key, Spread, SPREADS};
 use model::random::places::pages_in_use;
-use model::random::sound_tables::{number_pages, sound_index};
+use model::random::sound_tables::{any_sound_index, number_pages, sound_index, ENTRIES};
 use model::random::Random;
 use model::shrink::must_hold;
 use model::table::{header, read, stored_page, Tables};
@@ -72,7 +73,24 @@ fn random_borders_and_all_levels() {
     met.assert(5, &levels);
     met.assert(20, &["on 2", "on 3", "on 4", "on 5", "on 7", "on 8"]);
     met.assert(20, &["off 2", "off 6"]);
-    met.assert(5, &PAGE_CHANGES);
+    met.assert(5, &CUTS);
+    met.assert(5, &EMPTIED);
+}
+
+/// Every held key taken off, each from the same tables, with pages of 5 entries
+/// and more: there they are joined, on all levels.
+#[test]
+fn offs_that_join_pages() {
+    let mut met = Met::default();
+    for seed in seeds(2_000) {
+        let index = any_sound_index(&mut Random::new(seed), &ENTRIES[5..]);
+        let tables = Tables::of(&index);
+        for &key in index.herd().keys() {
+            let off = Call::Off(key);
+            same::change(&tables, off, &mut met, &format!("seed {seed}"));
+        }
+    }
+    met.assert(3, &MERGES);
 }
 
 /// Every key put on and every key taken off, from the same tables.
@@ -81,7 +99,7 @@ fn every_key_of_few_bits() {
     let mut met = Met::default();
     for seed in seeds(400) {
         let mut random = Random::new(seed);
-        let (width, entries) = (random.between(1, 5), random.between(2, 4));
+        let (width, entries) = (random.between(1, 5), random.between(2, 6));
         let tables = Tables::of(&sound_index(&mut random, width, entries, 14));
         let free = tables.used.iter().position(|&used| used == 0);
         for key in 0..=largest_key(width) + 1 {
@@ -102,7 +120,7 @@ fn histories_from_sound_tables() {
     for seed in seeds(300) {
         let mut random = Random::new(seed);
         let width = random.between(1, 64);
-        let entries = *random.pick(&[2, 2, 3, 4, 5, 8, 20]);
+        let entries = *random.pick(&ENTRIES);
         let index = sound_index(&mut random, width, entries, 24);
         let (shape, held) = (shape_of(&index), index.herd());
         let calls = calls(&mut random, shape, &held, 30);
@@ -118,7 +136,8 @@ fn histories_from_sound_tables() {
         };
         must_hold(seed, &History { shape, calls }, attempt);
     }
-    met.borrow().assert(5, &PAGE_CHANGES);
+    met.borrow().assert(5, &CUTS);
+    met.borrow().assert(5, &EMPTIED);
     met.borrow().assert(5, &["on 7", "on 8", "off 6"]);
 }
 
@@ -130,7 +149,7 @@ fn larger_herds() {
         let entries = *random.pick(&[5, 20, 60, 255]);
         let width = random.between(32, 64);
         let tables = Tables::of(&sound_index(&mut random, width, entries, 300));
-        let held: Vec<u64> = (0..300)
+        let mut held: Vec<u64> = (0..300)
             .filter(|&record| tables.used[record] == 1)
             .map(|record| tables.keys[record])
             .collect();
@@ -138,13 +157,17 @@ fn larger_herds() {
         for _ in 0..4 {
             let change = some_change(&mut random, &tables);
             same::change(&tables, change, &mut met, &what);
-            if !held.is_empty() {
-                let off = Call::Off(*random.pick(&held));
-                same::change(&tables, off, &mut met, &what);
-            }
+        }
+        random.shuffle(&mut held);
+        for &key in held.iter().take(20) {
+            same::change(&tables, Call::Off(key), &mut met, &what);
         }
     }
     met.assert(10, &["on 0", "off 0"]);
+    met.assert(
+        30,
+        &["joined left", "joined right", "joined above level 0 alone"],
+    );
 }
 
 /// The most pages and the most records, both in use anywhere.

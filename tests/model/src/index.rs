@@ -2,7 +2,8 @@
 
 use crate::bits::fits;
 use crate::leaf_list::{Entry, Herd};
-use crate::pages::{changed, Page, Row};
+use crate::merging::merged;
+use crate::pages::{changed, lowered, Page, Row};
 use crate::search::{deletion, insertion, position_list, search};
 
 /// "15 as the highest root level."
@@ -101,14 +102,21 @@ impl Index {
         Ok(changed(self.root.clone(), &change, self.most_entries))
     }
 
-    /// Takes the key off, or gives the row that declines it.
+    /// Takes the key off, or gives the row that declines it. First its entries
+    /// are taken out, then pages are merged; "the root rule of 01 comes last".
     pub fn off(&mut self, key: u64) -> Result<(), u32> {
         let record = self.find(key)?;
-        let leaves = self.root.leaves();
-        let change = deletion(&leaves, search(&leaves, key, self.width));
-        self.root = changed(self.root.clone(), &change, self.most_entries);
+        let left = merged(self.taken_out(key), key, self.width, self.most_entries);
+        self.root = lowered(left);
         self.register[record as usize] = None;
         Ok(())
+    }
+
+    /// The tree that an off of a held key leaves before pages are merged.
+    pub fn taken_out(&self, key: u64) -> Page {
+        let leaves = self.root.leaves();
+        let change = deletion(&leaves, search(&leaves, key, self.width));
+        changed(self.root.clone(), &change, self.most_entries)
     }
 
     /// The record of the key, or the row that declines it. "Only a live leaf

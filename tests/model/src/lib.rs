@@ -4,7 +4,7 @@
 //! comments are the specification's.
 //!
 //! - What a herd's index is: [`bits`], [`leaf_list`], [`search`], [`pages`],
-//!   [`index`].
+//!   [`merging`], [`index`].
 //! - Its tables and calls: [`table`], [`sound`], [`answer`], [`calls`].
 //! - What it is measured against: [`map`], [`claims`], [`history`].
 //! - Tags and the program: [`tag_code`], [`day_book`].
@@ -22,6 +22,7 @@ pub mod history;
 pub mod index;
 pub mod leaf_list;
 pub mod map;
+pub mod merging;
 pub mod pages;
 pub mod random;
 pub mod search;

@@ -72,6 +72,28 @@ impl Page {
         }
     }
 
+    /// The page of level 0 that holds the leaf at this place, counted from the
+    /// first under this page, and all pages above it up to this one.
+    pub fn over(&self, place: usize) -> Vec<&Page> {
+        let mut pages = match &self.row {
+            Row::Leaves(_) => vec![],
+            Row::Children(children) => {
+                let (at, place) = child_over(children, place);
+                children[at].over(place)
+            }
+        };
+        pages.push(self);
+        pages
+    }
+
+    /// How many leaves stand under the page.
+    fn leaf_count(&self) -> usize {
+        match &self.row {
+            Row::Leaves(leaves) => leaves.len(),
+            Row::Children(children) => children.iter().map(Page::leaf_count).sum(),
+        }
+    }
+
     /// The walk from this page down to a leaf. The position list goes on in
     /// the child from the place `first` that it has come to in the parent.
     pub fn walk(&self, positions: &[usize], first: usize) -> Entry {
@@ -106,15 +128,27 @@ impl Page {
     }
 }
 
+/// Which of these pages, side by side, holds the leaf at this place, counted
+/// from the first under the first page, and the leaf's place counted from the
+/// first under that page.
+pub fn child_over(children: &[Page], place: usize) -> (usize, usize) {
+    let (mut at, mut place) = (0, place);
+    while place >= children[at].leaf_count() {
+        place -= children[at].leaf_count();
+        at += 1;
+    }
+    (at, place)
+}
+
 /// The tree under `root` after a change of its leaf list, where a page may
-/// hold `most` entries.
+/// hold `most` entries. The root rule of a deletion is left to [`lowered`].
 pub fn changed(root: Page, change: &Change, most: usize) -> Page {
     let mut tops = parts(root, change, &mut 0, most);
     while tops.len() > 1 {
         // "Above a cut root comes a new root, itself cut while too long."
         tops = cut(Page::new(None, Row::Children(tops)), most);
     }
-    lowered(tops.pop().expect("the leaf list is never empty"))
+    tops.pop().expect("the leaf list is never empty")
 }
 
 /// What becomes of a page: none if it is emptied, several if it is cut. `next`
@@ -171,9 +205,9 @@ fn cut_row<T>(mut row: Vec<T>, depth: fn(&T) -> usize, most: usize) -> Vec<Vec<T
     parts
 }
 
-/// "While the root is above level 0 with one entry, its child becomes root and
-/// the old root is freed."
-fn lowered(root: Page) -> Page {
+/// The root rule: "while the root is above level 0 with one entry, its child
+/// becomes root and the old root is freed."
+pub fn lowered(root: Page) -> Page {
     match root.row {
         Row::Children(mut children) if children.len() == 1 => lowered(children.remove(0)),
         row => Page::new(root.number, row),

@@ -37,7 +37,7 @@ fn explore(width: usize, entries: usize) -> usize {
 
 #[test]
 fn every_history_at_2_and_3_bits() {
-    for (width, entries) in [(1, 2), (2, 2), (2, 3), (3, 2), (3, 3), (3, 4)] {
+    for (width, entries) in [(1, 2), (2, 2), (2, 3), (3, 2), (3, 3), (3, 4), (3, 5)] {
         let trees = explore(width, entries);
         println!("W {width}, E {entries}: {trees} page trees");
         assert!(trees >= 1 << (1 << width), "a tree for every herd at least");

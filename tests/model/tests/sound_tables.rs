@@ -10,7 +10,7 @@ use model::map::Map;
 use model::pages::{changed, Page, Row};
 use model::random::histories::calls;
 use model::random::keys::{key, SPREADS};
-use model::random::sound_tables::sound_index;
+use model::random::sound_tables::{any_sound_index, ENTRIES};
 use model::random::Random;
 use model::search::{position_list, search, Change};
 use model::shrink::must_hold;
@@ -19,10 +19,7 @@ use std::collections::BTreeMap;
 
 /// A random sound index with a few spare pages.
 fn random_index(random: &mut Random) -> Index {
-    let width = random.between(1, 64);
-    let entries = *random.pick(&[2, 2, 3, 4, 5, 8, 20]);
-    let records = random.between(1, 24);
-    sound_index(random, width, entries, records)
+    any_sound_index(random, &ENTRIES)
 }
 
 /// Level 0 by page numbers.
@@ -123,8 +120,20 @@ fn may_be_left(left: &[Entry], before: &[Entry], removed: u32) -> bool {
     })
 }
 
+/// The pages of level 0 with the numbers they have, left to right.
+fn in_order(root: &Page) -> Vec<(Option<u32>, Vec<Entry>)> {
+    let pages = root.pages().into_iter();
+    let leaves = pages.filter(|page| page.level() == 0);
+    leaves.map(|page| (page.number, page.leaves())).collect()
+}
+
+/// Each page of level 0 after an off is what may be left of one page, whose
+/// number it has, or once at most of two that stood side by side when all that
+/// were emptied had gone; it then has the left one's number, and the right one
+/// is free.
 #[test]
-fn an_off_only_takes_out_of_pages() {
+fn an_off_takes_out_of_pages_and_joins_two_of_level_0_at_most() {
+    let mut met = [0; 2];
     for seed in seeds(1_500) {
         let mut random = Random::new(seed);
         let before = random_index(&mut random);
@@ -135,12 +144,27 @@ fn an_off_only_takes_out_of_pages() {
         let (key, record) = *random.pick(&held);
         let mut after = before.clone();
         assert_eq!(after.off(key), Ok(()));
+        let (left, new) = (in_order(&before.taken_out(key)), in_order(&after.root));
         let old = level_0(&before.root);
-        for (page, left) in level_0(&after.root) {
-            let entries = old.get(&page).expect("no page is taken");
-            assert!(may_be_left(&left, entries, record), "seed {seed}");
+        for (page, left) in &left {
+            let entries = old.get(page).expect("no page is taken");
+            assert!(may_be_left(left, entries, record), "seed {seed}");
         }
+        let joined = |at: usize| {
+            let mut pages = left.clone();
+            let (_, right) = pages.remove(at + 1);
+            pages[at].1.extend(right);
+            pages
+        };
+        let join = new.len() < left.len();
+        let one_join = (0..left.len() - 1).any(|at| joined(at) == new);
+        assert!(if join { one_join } else { left == new }, "seed {seed}");
+        met[usize::from(join)] += 1;
     }
+    assert!(
+        met.iter().all(|&times| times >= 40),
+        "kept, joined: {met:?}"
+    );
 }
 
 /// The depths of the pages of level 0 after a row is cut.

@@ -13,10 +13,12 @@ pub fn small_shape(random: &mut Random) -> Shape {
         1 => random.between(9, 20),
         _ => random.between(21, 64),
     };
-    let entries = match random.below(3) {
+    let entries = match random.below(6) {
         0 => 2,
-        1 => random.between(3, 6),
-        _ => random.between(7, 40),
+        1 => random.between(2, 4),
+        // From 5 on a page of one entry has fewer than a quarter.
+        2..=4 => random.between(5, 12),
+        _ => random.between(13, 40),
     };
     let pages = if random.percent(25) {
         random.between(1, 10)

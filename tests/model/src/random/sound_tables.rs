@@ -18,6 +18,18 @@ pub enum Borders {
     Any,
 }
 
+/// E to pick from. From 5 on a page of one entry has fewer than a quarter.
+pub const ENTRIES: [usize; 16] = [2, 2, 2, 3, 4, 5, 5, 6, 7, 8, 9, 9, 10, 11, 12, 20];
+
+/// A sound index of any width with random borders, page numbers and E, and a
+/// few records.
+pub fn any_sound_index(random: &mut Random, entries: &[usize]) -> Index {
+    let width = random.between(1, 64);
+    let entries = *random.pick(entries);
+    let records = random.between(1, 24);
+    sound_index(random, width, entries, records)
+}
+
 /// A sound index with random borders and page numbers.
 pub fn sound_index(
     random: &mut Random,
