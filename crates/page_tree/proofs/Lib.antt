@@ -1,3 +1,4 @@
+pub mod MergingExamples
 pub mod ListLaws
 pub mod ClosedRows
 pub mod Splitting
@@ -22,7 +23,6 @@ pub mod MergingRows
 pub mod MergingMaps
 pub mod MergingLaws
 pub mod MergingPlaces
-pub mod MergingExamples
 pub mod DeletionTrees
 pub mod DeletionPages
 pub mod LastAlone
