@@ -74,8 +74,10 @@ pub record SmallPages : Type 0 where
             ∷ ((((entry 0 (some 4) ∷ []) ∷ []) ∷ []) ∷ [])
             ∷ [],
       )
-  -- Request (i). P10 less 01000000: its page has one entry left, the page on the right is shallower, and five entries fit; then the root rule: P4.
-  pub merged-right : changes 8 5 keys10 (on 1 ∷ on 2 ∷ on 3 ∷ on 4 ∷ off 4 ∷ []) ≡ changes 8 5 keys10 (on 1 ∷ on 2 ∷ on 3 ∷ [])
+  -- Request (i). P10 less 01000000: its page has one entry left, the page on the right is shallower, and five entries fit; then the root rule: P4 in one page.
+  pub merged-right :
+      changes 8 5 keys10 (on 1 ∷ on 2 ∷ on 3 ∷ on 4 ∷ off 4 ∷ [])
+      ≡ (0, entry 1 (some 3) ∷ entry 3 none ∷ entry 5 none ∷ entry 6 (some 1) ∷ entry 0 (some 2) ∷ [])
   -- With the left neighbour.
   pub merged-left :
       changes 8 5 (234 ∷ 103 ∷ 141 ∷ 115 ∷ []) (on 0 ∷ on 1 ∷ on 2 ∷ on 3 ∷ off 2 ∷ [])

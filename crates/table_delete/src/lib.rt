@@ -58,7 +58,7 @@ fn lowest_level(index: &[u8], e: u8, leaf: Leaf) -> u8
     3
 }
 
-// What ends an off: pages are merged along the way of the key, from a lowest level up, and then the root rule.
+// Ends an off: merges pages along the way of the key, from a lowest level up, applies the root rule, and returns the root that is left.
 fn finish(
     index: &mut [u8],
     e: u8,
@@ -77,7 +77,7 @@ fn finish(
     lower(index, e, pages, level, page)
 }
 
-// The entry that figure 6 finds for a key is taken out of the tree below a root: the root that is left.
+// Takes the entry that figure 6 finds for a key out of the tree below a root, merges pages, and returns the root that is left.
 pub fn take_out(
     index: &mut [u8],
     e: u8,
@@ -97,7 +97,7 @@ pub fn take_out(
     finish(index, e, pages, level, page, w, key, 1)
 }
 
-// The same where the way to the entry is known: within its page where that page alone changes.
+// Does the same where the way to the entry is known: within its page where that page alone changes.
 pub fn take_out_at(
     index: &mut [u8],
     e: u8,
