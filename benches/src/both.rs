@@ -13,7 +13,7 @@ use std::hint::black_box;
 use std::time::Duration;
 
 /// The times of a call, in nanoseconds, the earlier library's first.
-type Times = [f64; 2];
+pub type Times = [f64; 2];
 
 /// A call of both libraries, in nanoseconds.
 pub struct Both {
@@ -22,6 +22,16 @@ pub struct Both {
     /// This library over the earlier one, a ratio.
     pub ratio: Median,
 }
+
+/// An on or an off of both libraries.
+pub struct Change {
+    pub quiet: Both,
+    /// The means of all rows, each with its least time.
+    pub means: Times,
+}
+
+/// A row comes again on the same tables: they are renewed where the rows begin again.
+const _: () = assert!(LOOKED_FOR % (change::IN_A_ROW * change::SAME_TABLES) == 0);
 
 /// A herd that is only read.
 struct Reading {
@@ -111,6 +121,8 @@ struct Changing {
     changed: Changed,
     /// What is changed, row after row; the keys of a row are all different.
     tags: Vec<Tag>,
+    /// The least times of each row, of the changes and of those that undo them.
+    least: Vec<[Times; 2]>,
 }
 
 impl Changing {
@@ -119,6 +131,7 @@ impl Changing {
             sides: sides(start),
             start: start.clone(),
             changed,
+            least: vec![[[f64::INFINITY; 2]; 2]; tags.len() / change::IN_A_ROW],
             tags,
         };
         changing.test();
@@ -158,7 +171,7 @@ impl Changing {
     /// The times of one row by the library of this place: of the changes, and of
     /// those that undo them.
     fn row(&mut self, place: usize, number: usize) -> [f64; 2] {
-        let first = number * change::IN_A_ROW % self.tags.len();
+        let first = number % self.least.len() * change::IN_A_ROW;
         let tags = &self.tags[first..first + change::IN_A_ROW];
         let side = &mut self.sides[place];
         match self.changed {
@@ -176,13 +189,31 @@ impl Changing {
             times[0][place] = done;
             times[1][place] = undone;
         }
-        (!self.declined()).then_some(times)
+        if self.declined() {
+            return None;
+        }
+        let row = number % self.least.len();
+        let least = self.least[row].as_flattened_mut();
+        for (least, time) in least.iter_mut().zip(times.as_flattened()) {
+            *least = least.min(*time);
+        }
+        Some(times)
+    }
+
+    /// The mean of the rows' least times, of the changes or of those that undo them.
+    fn mean(&self, which: usize, place: usize) -> f64 {
+        let least = self.least.iter().map(|row| row[which][place]);
+        let timed: Vec<f64> = least.filter(|time| time.is_finite()).collect();
+        timed.iter().sum::<f64>() / timed.len() as f64
     }
 
     /// Measures the changes, and those that undo them, for so long.
-    fn measure(&mut self, how_long: Duration) -> [Both; 2] {
+    fn measure(&mut self, how_long: Duration) -> [Change; 2] {
         let rounds = quiet_rounds(how_long, |number| self.round(number));
-        [0, 1].map(|which| both(&rounds, which))
+        [0, 1].map(|which| Change {
+            quiet: both(&rounds, which),
+            means: [0, 1].map(|place| self.mean(which, place)),
+        })
     }
 }
 
@@ -219,7 +250,7 @@ pub fn reads(herd: Herd, how_long: Duration) -> [Both; READS.len()] {
 
 /// Measures ons of other keys and their offs, then offs of held keys and their ons,
 /// on a herd, both together for so long.
-pub fn changes(herd: Herd, how_long: Duration) -> [[Both; 2]; 2] {
+pub fn changes(herd: Herd, how_long: Duration) -> [[Change; 2]; 2] {
     let records = herd.records;
     let mut random = Random::new(records as u64);
     let mut held = herd.tags(&mut random, records + LOOKED_FOR);

@@ -1,7 +1,7 @@
 //! The table that is printed of a kind of herds if this library is compared with an
 //! earlier one.
 
-use crate::both::{changes, reads, Both};
+use crate::both::{changes, reads, Both, Change};
 use crate::herd::{Herd, Tags, WIDTH};
 use crate::measure::{Read, LISTED, READS};
 use crate::report::{nanos, row};
@@ -17,8 +17,10 @@ are taken off in a row and then put on. These three have rounds of their own, th
 together. Tables are equal at the start, and those that are changed are so again after 64 rounds; then, or before a
 round of reading, the libraries exchange them. A round in which an on finds no page (7) is left out. Times are medians
 over the quarter of the rounds that took least, and a ratio is the median of the ratios within them; brackets show the
-interval of the median (95 in 100). Functions stand at multiples of 64 bytes, but where else the linker puts them may
-still count: what a library compared with itself shows tells how much.";
+interval of the median (95 in 100). With on and off these are rounds whose keys cut and merge few pages. So the mean of
+all rows of 16 follows: each comes again and again on the same tables, and the least of its times counts. Functions
+stand at multiples of 64 bytes, but where else the linker puts them may still count: what a library compared with
+itself shows tells how much.";
 
 /// Prints what was done, with pages of E entries.
 pub fn print_method(entries: usize) {
@@ -30,7 +32,7 @@ pub struct Comparison<'a> {
     tags: Tags,
     records: &'a [usize],
     read: Vec<[Both; READS.len()]>,
-    changed: Vec<[[Both; 2]; 2]>,
+    changed: Vec<[[Change; 2]; 2]>,
 }
 
 impl Comparison<'_> {
@@ -72,7 +74,17 @@ impl Comparison<'_> {
 
     fn print_change(&self, what: &str, [keys, which]: [usize; 2]) {
         let herds = self.changed.iter().map(|changes| &changes[keys][which]);
-        print_both(what, herds.collect());
+        let herds: Vec<&Change> = herds.collect();
+        print_both(what, herds.iter().map(|m| &m.quiet).collect());
+        let [before, now] = [0, 1];
+        let mean = |m: &Change, place: usize| format!("{:.0}", m.means[place]);
+        row("mean of the earlier library, ns", &herds, |m| {
+            mean(m, before)
+        });
+        row("mean of this library, ns", &herds, |m| mean(m, now));
+        row("ratio of the means", &herds, |m| {
+            format!("{:.2}", m.means[now] / m.means[before])
+        });
     }
 }
 
