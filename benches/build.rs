@@ -1,4 +1,5 @@
-//! Links the static library, and the copy that checks nothing, as benches/run has put them.
+//! Links the static library, the copy that checks nothing, and such a copy of an
+//! earlier library if there is one, as benches/run has put them.
 
 use std::path::Path;
 
@@ -8,5 +9,8 @@ fn main() {
     println!("cargo:rustc-link-search=native={}", archives.display());
     println!("cargo:rustc-link-lib=static=tag_index");
     println!("cargo:rustc-link-lib=static=unchecked");
+    if cfg!(feature = "before") {
+        println!("cargo:rustc-link-lib=static=before");
+    }
     println!("cargo:rerun-if-changed={}", archives.display());
 }

@@ -11,10 +11,10 @@ use std::time::Duration;
 
 /// How many calls without a check, or inserts of the map, are timed together, and
 /// then as many that take the keys off again: few beside the smallest herd.
-const IN_A_ROW: usize = 16;
+pub const IN_A_ROW: usize = 16;
 
 /// After so many rounds the tables are those of the start again.
-const SAME_TABLES: usize = 64;
+pub const SAME_TABLES: usize = 64;
 
 /// A herd with all that a round works on.
 struct Bench {

@@ -1,5 +1,6 @@
-//! The calls of include/tag_index.h that are measured, and those of a copy of the
-//! library that checks nothing, which benches/run makes for this program alone.
+//! The calls of include/tag_index.h that are measured, and those of copies of the
+//! library, and of an earlier one, that check nothing, which benches/run makes for
+//! this program alone.
 
 use model::table::Tables;
 
@@ -149,6 +150,17 @@ calls!("tag_index");
 pub mod unchecked {
     use super::{Answer, Tables};
 
+    calls!("unchecked");
+}
+
+/// The same calls of the earlier library that benches/run was given, without their
+/// check too; if it was given none, nothing makes them, and they are this one's.
+pub mod before {
+    use super::{Answer, Tables};
+
+    #[cfg(feature = "before")]
+    calls!("before");
+    #[cfg(not(feature = "before"))]
     calls!("unchecked");
 }
 

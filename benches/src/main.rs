@@ -1,18 +1,23 @@
 //! Prints how long the six calls take on two kinds of herds, beside a memcmp or
 //! memset of the same bytes and `BTreeMap`'s get, range, insert and remove. The
 //! arguments, if given, are the seconds for reading each herd, and as many for
-//! changing it, and E.
+//! changing it, and E. If an earlier library is linked too, prints how long find,
+//! list, on and off of both take instead.
 
 mod aligned;
+mod both;
 mod change;
+mod comparison;
 mod empty;
 mod herd;
 mod library;
 mod measure;
 mod report;
 mod rounds;
+mod side;
 mod turns;
 
+use comparison::Comparison;
 use herd::Tags;
 use report::Report;
 use std::ops::RangeInclusive;
@@ -38,9 +43,17 @@ fn main() {
     let mut arguments = std::env::args().skip(1);
     let seconds = number(arguments.next(), SECONDS, 1..=3_600);
     let entries = number(arguments.next(), ENTRIES, 2..=255) as usize;
-    report::print_method(entries);
+    let each = Duration::from_secs(seconds);
+    if cfg!(feature = "before") {
+        comparison::print_method(entries);
+    } else {
+        report::print_method(entries);
+    }
     for tags in [Tags::Scattered, Tags::Lots] {
-        let each = Duration::from_secs(seconds);
-        Report::new(tags, entries, &RECORDS, each).print();
+        if cfg!(feature = "before") {
+            Comparison::new(tags, entries, &RECORDS, each).print();
+        } else {
+            Report::new(tags, entries, &RECORDS, each).print();
+        }
     }
 }

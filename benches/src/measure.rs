@@ -23,7 +23,7 @@ pub enum Read {
     List,
 }
 
-const READS: [Read; 3] = [Read::Held, Read::Other, Read::List];
+pub const READS: [Read; 3] = [Read::Held, Read::Other, Read::List];
 
 /// Check, each read, and a check with each read of the map.
 const KINDS: usize = 1 + 2 * READS.len();
@@ -32,7 +32,7 @@ const KINDS: usize = 1 + 2 * READS.len();
 pub const LISTED: usize = 32;
 
 /// How many reads that check nothing are timed together.
-const IN_A_ROW: usize = 256;
+pub const IN_A_ROW: usize = 256;
 
 /// What was measured of a herd, in nanoseconds a call.
 pub struct Measures {

@@ -87,7 +87,7 @@ impl Report {
 }
 
 /// Prints a row: its name, and a cell for each herd.
-fn row<T>(name: &str, herds: &[T], cell: impl Fn(&T) -> String) {
+pub fn row<T>(name: &str, herds: &[T], cell: impl Fn(&T) -> String) {
     let cells = herds.iter().map(|herd| format!(" {:>22}", cell(herd)));
     println!("{name:<38}{}", cells.collect::<String>());
 }
@@ -103,7 +103,7 @@ fn micros(median: Median) -> String {
 }
 
 /// Nanoseconds with the interval of the median.
-fn nanos(median: Median) -> String {
+pub fn nanos(median: Median) -> String {
     let Median { value, low, high } = median;
     format!("{value:.0} [{low:.0}, {high:.0}]")
 }

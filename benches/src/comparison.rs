@@ -1,0 +1,103 @@
+//! The table that is printed of a kind of herds if this library is compared with an
+//! earlier one.
+
+use crate::both::{changes, reads, Both, Change};
+use crate::herd::{Herd, Tags, WIDTH};
+use crate::measure::{Read, LISTED, READS};
+use crate::report::{nanos, row};
+use crate::rounds::Median;
+use std::time::Duration;
+
+const METHOD: &str = "\
+This library beside an earlier one, both as copies whose check answers at once that the tables are sound. Tables are
+made at once, as if one long row were cut into pages, not by a history of on and off. Other keys are tags made the same
+way (of lots: of other lots). Within a round the two libraries take turns, in random order, with the same keys on
+tables of their own: 256 finds or lists in a row; or 16 keys are put on in a row and then taken off; or 16 held keys
+are taken off in a row and then put on. These three have rounds of their own, the first for as long as the others
+together. Tables are equal at the start, and those that are changed are so again after 64 rounds; then, or before a
+round of reading, the libraries exchange them. A round in which an on finds no page (7) is left out. Times are medians
+over the quarter of the rounds that took least, and a ratio is the median of the ratios within them; brackets show the
+interval of the median (95 in 100). With on and off these are rounds whose keys cut and merge few pages. So the mean of
+all rows of 16 follows: each comes again and again on the same tables, and the least of its times counts. Functions
+stand at multiples of 64 bytes, but where else the linker puts them may still count: what a library compared with
+itself shows tells how much.";
+
+/// Prints what was done, with pages of E entries.
+pub fn print_method(entries: usize) {
+    println!("W {WIDTH}, E {entries}, P a quarter above the pages in use.\n{METHOD}");
+}
+
+/// What was measured of herds with such tags, each herd in its place.
+pub struct Comparison<'a> {
+    tags: Tags,
+    records: &'a [usize],
+    read: Vec<[Both; READS.len()]>,
+    changed: Vec<[[Change; 2]; 2]>,
+}
+
+impl Comparison<'_> {
+    /// Measures herds of so many records, each for so long, and changed as long.
+    pub fn new(tags: Tags, entries: usize, records: &[usize], each: Duration) -> Comparison<'_> {
+        let herd = |&records: &usize| Herd {
+            tags,
+            entries,
+            records,
+        };
+        let read = |records| reads(herd(records), each);
+        let change = |records| changes(herd(records), each);
+        Comparison {
+            tags,
+            records,
+            read: records.iter().map(read).collect(),
+            changed: records.iter().map(change).collect(),
+        }
+    }
+
+    /// Prints the table.
+    pub fn print(&self) {
+        println!("\n{}\n", self.tags.name());
+        row("records, all held", self.records, usize::to_string);
+        let list = format!("list, at most {LISTED} records from a held key on");
+        self.print_read("find of a held key", Read::Held);
+        self.print_read("find of another key", Read::Other);
+        self.print_read(&list, Read::List);
+        self.print_change("on of a key not held at the start", [0, 0]);
+        self.print_change("off of the same key, taken off again", [0, 1]);
+        self.print_change("off of a key held at the start", [1, 0]);
+        self.print_change("on of the same key, put on again", [1, 1]);
+    }
+
+    fn print_read(&self, what: &str, read: Read) {
+        let herds = self.read.iter().map(|reads| &reads[read as usize]);
+        print_both(what, herds.collect());
+    }
+
+    fn print_change(&self, what: &str, [keys, which]: [usize; 2]) {
+        let herds = self.changed.iter().map(|changes| &changes[keys][which]);
+        let herds: Vec<&Change> = herds.collect();
+        print_both(what, herds.iter().map(|m| &m.quiet).collect());
+        let [before, now] = [0, 1];
+        let mean = |m: &Change, place: usize| format!("{:.0}", m.means[place]);
+        row("mean of the earlier library, ns", &herds, |m| {
+            mean(m, before)
+        });
+        row("mean of this library, ns", &herds, |m| mean(m, now));
+        row("ratio of the means", &herds, |m| {
+            format!("{:.2}", m.means[now] / m.means[before])
+        });
+    }
+}
+
+/// A ratio with the interval of the median.
+fn ratio(median: Median) -> String {
+    let Median { value, low, high } = median;
+    format!("{value:.2} [{low:.2}, {high:.2}]")
+}
+
+/// Prints a call of both libraries, with a measure of each herd.
+fn print_both(what: &str, herds: Vec<&Both>) {
+    println!("\n{what}");
+    row("earlier library, ns", &herds, |m| nanos(m.before));
+    row("this library, ns", &herds, |m| nanos(m.now));
+    row("this / earlier", &herds, |m| ratio(m.ratio));
+}
