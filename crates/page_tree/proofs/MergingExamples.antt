@@ -28,6 +28,14 @@ fewer-joined = refl
 pub left-first : mergePage 5 1 (2 ∷ []) (page 2 ∷ page 1 ∷ page 0 ∷ []) ≡ (page 2 ++ page 1) ∷ page 0 ∷ []
 left-first = refl
 
+-- It is one join a level: what a join on the left leaves is not joined again, though it is still sparse;
+pub left-once : mergePage 9 1 (2 ∷ []) (page 2 ∷ page 1 ∷ page 0 ∷ []) ≡ (page 2 ++ page 1) ∷ page 0 ∷ []
+left-once = refl
+
+-- nor what one on the right leaves.
+pub right-once : mergePage 9 1 (3 ∷ []) (page 2 ∷ page 1 ∷ page 0 ∷ []) ≡ (page 2 ++ page 1) ∷ page 0 ∷ []
+right-once = refl
+
 -- A left neighbour that is shallower is not.
 pub left-shallower : mergePage 5 1 (1 ∷ []) (page 1 ∷ page 2 ∷ page 0 ∷ []) ≡ page 1 ∷ (page 2 ++ page 0) ∷ []
 left-shallower = refl
@@ -39,6 +47,33 @@ too-many-stay = refl
 -- An only child has no neighbour, nor one under another parent; its parent has.
 pub level-by-level : mergePage 5 2 (2 ∷ []) ((page 1 ∷ []) ∷ (page 0 ∷ []) ∷ []) ≡ (page 1 ∷ page 0 ∷ []) ∷ []
 level-by-level = refl
+
+-- So it goes on up to the pages below the root.
+pub level-after-level : mergePage 5 3 (2 ∷ []) (((page 1 ∷ []) ∷ []) ∷ ((page 0 ∷ []) ∷ []) ∷ []) ≡ ((page 1 ∷ []) ∷ (page 0 ∷ []) ∷ []) ∷ []
+level-after-level = refl
+
+-- The position list goes on in a child: the page with depth 2 is passed there, the one with depth 3 found, and neither neighbour can be joined with it.
+pub positions-go-on :
+    mergePage 5 2 (1 ∷ 9 ∷ []) ((page 1 ∷ []) ∷ (page 2 ∷ page 3 ∷ page 0 ∷ []) ∷ []) ≡ (page 1 ∷ []) ∷ (page 2 ∷ page 3 ∷ page 0 ∷ []) ∷ []
+positions-go-on = refl
+
+-- Where figure 11 only makes a dummy, pages are merged too.
+pub after-a-dummy :
+    offTree 8 5 128 (1, (entry 1 (some 1) ∷ []) ∷ (entry 2 (some 2) ∷ []) ∷ (entry 3 (some 3) ∷ entry 0 (some 4) ∷ []) ∷ [])
+    ≡ (1, (entry 1 (some 1) ∷ []) ∷ (entry 2 none ∷ entry 3 (some 3) ∷ entry 0 (some 4) ∷ []) ∷ [])
+after-a-dummy = refl
+
+-- The page that covers the key now need not be the one that held it.
+pub covers-now :
+    offTree 8 5 2 (
+      1,
+      (entry 7 (some 1) ∷ [])
+          ∷ (entry 6 (some 2) ∷ entry 5 (some 3) ∷ entry 4 (some 4) ∷ entry 3 (some 5) ∷ entry 2 (some 6) ∷ [])
+          ∷ (entry 1 (some 7) ∷ entry 0 (some 8) ∷ [])
+          ∷ [],
+    )
+    ≡ (1, (entry 6 (some 1) ∷ entry 5 (some 3) ∷ entry 4 (some 4) ∷ entry 3 (some 5) ∷ entry 2 (some 6) ∷ []) ∷ (entry 1 (some 7) ∷ entry 0 (some 8) ∷ []) ∷ [])
+covers-now = refl
 
 -- Where the last two pages below the root are joined, the root rule makes one of them the root.
 pub root-rule-last : offTree 8 5 64 (1, (entry 2 (some 3) ∷ entry 1 (some 4) ∷ []) ∷ (entry 3 none ∷ entry 0 (some 2) ∷ []) ∷ []) ≡ (0, entry 1 (some 3) ∷ entry 3 none ∷ entry 0 (some 2) ∷ [])

@@ -97,6 +97,16 @@ pub record SmallPages : Type 0 where
       )
   -- Between a shallower and a full page it stays alone.
   pub not-merged :
+      changes 8 5 (188 ∷ 237 ∷ 82 ∷ 238 ∷ []) (on 0 ∷ on 1 ∷ on 2 ∷ on 3 ∷ off 0 ∷ [])
+      ≡ (
+        1,
+        (entry 1 (some 2) ∷ [])
+            ∷ (entry 2 none ∷ [])
+            ∷ (entry 3 none ∷ entry 5 none ∷ entry 6 none ∷ entry 7 (some 1) ∷ entry 0 (some 3) ∷ [])
+            ∷ [],
+      )
+  -- A first page stays whose right neighbour is deeper.
+  pub right-deeper :
       changes 8 5 (207 ∷ 103 ∷ 15 ∷ 206 ∷ []) (on 0 ∷ on 1 ∷ on 2 ∷ on 3 ∷ off 1 ∷ [])
       ≡ (
         1,
@@ -155,6 +165,7 @@ small-pages =
       left-shallower = refl;
       left-full = refl;
       not-merged = refl;
+      right-deeper = refl;
       a-quarter = refl;
       merged-twice = refl;
       merged-above = refl;

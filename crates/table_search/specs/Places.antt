@@ -109,28 +109,28 @@ abbrev pub sparseAt : ℕ → Pages → ℕ → Bool
 sparseAt e pages page = sparse e (length (pages page))
 
 -- The place found in a page of level 0, with the depth τ before the page, below a page that is sparse or not; next is the next position there.
-pub record Ends (w key position τ page : ℕ) (few : Bool) (row : List Ref) (r : Leaf) : Type 0 where
+pub record Ends (w key position τ page : ℕ) (thin : Bool) (row : List Ref) (r : Leaf) : Type 0 where
   pub page-is : r .page .0 ≡ page
   pub next : ℕ
   pub place : Stopped w key position τ row (record { at = r .at; position = next; trail = r .trail })
   pub entry-is : getD row (r .at) (0, 0) ≡ (r .depth, r .pointer)
   pub before-is : r .before ≡ τ
-  pub thin-is : r .thin ≡ few
+  pub thin-is : r .thin ≡ thin
 
 -- The way from a page of level n down to the entry found: the place in each page, and the page below it. e is what a page may hold.
 abbrev pub Way : ℕ → ℕ → ℕ → Pages → ℕ → ℕ → ℕ → ℕ → Bool → Leaf → Type 0
-Way w key e pages zero page position τ few r = Ends w key position τ page few (pages page) r
-Way w key e pages (suc n) page position τ few r =
+Way w key e pages zero page position τ thin r = Ends w key position τ page thin (pages page) r
+Way w key e pages (suc n) page position τ thin r =
     (s : Spot) × Stopped w key position τ (pages page) s
     × Way w key e pages n (getD (pages page) (s .at) (0, 0) .1) (s .position) (s .trail) (sparseAt e pages page) r
 
 -- The entry that figure 6 finds below a page of level n, with the positions left and the depth before it.
-pub record Descended (w key position τ n : ℕ) (few : Bool) (e : ℕ) (pages : Pages) (page : ℕ) (r : Leaf) : Type 0 where
+pub record Descended (w key position τ n : ℕ) (thin : Bool) (e : ℕ) (pages : Pages) (page : ℕ) (r : Leaf) : Type 0 where
   pub next : ℕ
   pub found :
       findBelow (suc n) (leftFrom w key position) τ (nodeAt 65535 (suc n) pages (0, page))
       ≡ (leftFrom w key next, r .trail, entry (r .depth) (recordOf 65535 (r .pointer)))
-  pub way : Way w key e pages n page position τ few r
+  pub way : Way w key e pages n page position τ thin r
 
 -- An entry on level 0 whose numbers are small enough to stand in one.
 pub record LeafLow (l : Leaf) : Type 0 where
@@ -195,6 +195,6 @@ pub record ReachPre (b : List ℕ) (n page key position τ : ℕ) : Type 0 where
 
 -- The entry that it comes to, as a number.
 abbrev pub Reached : List ℕ → ℕ → ℕ → ℕ → ℕ → ℕ → Bool → ℕ → Type 0
-Reached b n page key position τ few r =
+Reached b n page key position τ thin r =
     let pages : Pages = pagesAt (layoutOf (entriesOf b)) b in
-    Descended (widthOf b) key position τ n few (entriesOf b) pages page (numberLeaf pages r)
+    Descended (widthOf b) key position τ n thin (entriesOf b) pages page (numberLeaf pages r)

@@ -30,7 +30,7 @@ use Rattle.tree_merge.specs.Merges.{PlacePre, besideAt, BesidePost, miss
 
 -- ---- a row whose thing found is not sparse, and stays below
 
--- Where both parts of a test say yes.
+-- A test that comes out true: its first part says no, its second yes.
 neither : (t u : Bool) → cond t false u ≡ true → (t ≡ false) × (u ≡ true)
 neither true u h = absurd (true≢false (sym h))
 neither false u h = (refl, h)
