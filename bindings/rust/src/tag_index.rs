@@ -154,7 +154,8 @@ impl TagIndex {
         Refusal::done(answer.number)
     }
 
-    /// The key is held no more; its record is free.
+    /// The key is held no more; its record is free, and so are the pages that
+    /// are emptied and those whose entries go to a neighbour.
     ///
     /// Declined by [`Refusal::NotSound`], [`Refusal::KeyTooWide`] and
     /// [`Refusal::KeyNotHeld`], the first that applies.
