@@ -52,7 +52,8 @@ level-by-level = refl
 pub level-after-level : mergePage 5 3 (2 ∷ []) (((page 1 ∷ []) ∷ []) ∷ ((page 0 ∷ []) ∷ []) ∷ []) ≡ ((page 1 ∷ []) ∷ (page 0 ∷ []) ∷ []) ∷ []
 level-after-level = refl
 
--- The position list goes on in a child: the page with depth 2 is passed there, the one with depth 3 found, and neither neighbour can be joined with it.
+-- The position list goes on in a child: figure 6 finds the page with depth 2 there, whose right neighbour is deeper, and not the last page, which could be
+-- joined.
 pub positions-go-on :
     mergePage 5 2 (1 ∷ 9 ∷ []) ((page 1 ∷ []) ∷ (page 2 ∷ page 3 ∷ page 0 ∷ []) ∷ []) ≡ (page 1 ∷ []) ∷ (page 2 ∷ page 3 ∷ page 0 ∷ []) ∷ []
 positions-go-on = refl
