@@ -2,7 +2,7 @@
 
 use crate::table::LAYOUT;
 
-/// The answer of format, on, off, find and list.
+/// The answer of format, on, off, find, list and load.
 #[derive(Clone, Copy, Debug, PartialEq, Eq)]
 pub struct Answer {
     /// 0 if the call is done, else the number of the row that declines it.

@@ -5,6 +5,17 @@ use crate::index::{Index, Room};
 use crate::sound::sound;
 use crate::table::{read, write, Lent, LAYOUT};
 
+/// A movement of a load: a key goes on a record, or off.
+#[derive(Clone, Copy, Debug, PartialEq, Eq)]
+pub struct Movement {
+    /// The key that is moved.
+    pub key: u64,
+    /// The record of an on. An off takes the key alone, whatever stands here.
+    pub record: u32,
+    /// 0 is an off, any other value is an on.
+    pub on: u32,
+}
+
 /// Format: 9, or the empty herd.
 pub fn format(
     index: &mut [u8],
@@ -32,6 +43,34 @@ pub fn on(index: &mut [u8], keys: &mut [u64], used: &mut [u8], key: u64, record:
 /// Off: 1, 2, 6, or the key is taken off.
 pub fn off(index: &mut [u8], keys: &mut [u64], used: &mut [u8], key: u64) -> Answer {
     change(index, keys, used, |held| held.off(key))
+}
+
+/// Load: 1, 12, or one answer beside each movement. It "checks once and then
+/// works through the list of movements": each gets what those before it left.
+pub fn load(
+    index: &mut [u8],
+    keys: &mut [u64],
+    used: &mut [u8],
+    movements: &[Movement],
+    answers: &mut [u32],
+) -> Answer {
+    change(index, keys, used, |held| {
+        // "12, the answer list is shorter than the list of movements, tested
+        // after 1."
+        if answers.len() < movements.len() {
+            return Err(12);
+        }
+        // "Answer entries beyond the last movement are kept."
+        for (movement, answer) in movements.iter().zip(answers) {
+            let moved = match movement.on {
+                0 => held.off(movement.key),
+                _ => held.on(movement.key, movement.record.into()),
+            };
+            // "A refused movement is passed over and the rest go on."
+            *answer = moved.err().unwrap_or(0);
+        }
+        Ok(())
+    })
 }
 
 /// Find: 1, 2, 6, or the key's record.
@@ -68,7 +107,8 @@ fn read_sound(lent: Lent) -> Result<Index, u32> {
     }
 }
 
-/// Reads the tables, changes them, and writes them back if that is done.
+/// Checks and reads the tables once, changes them, and writes them back if that
+/// is done.
 fn change(
     index: &mut [u8],
     keys: &mut [u64],

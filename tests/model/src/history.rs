@@ -2,7 +2,7 @@
 //! ordered map.
 
 use crate::answer::Answer;
-use crate::calls;
+use crate::calls::{self, Movement};
 use crate::claims::claims;
 use crate::compare::compare;
 use crate::index::Room;
@@ -25,6 +25,18 @@ pub enum Call {
     List(u64, u64, Vec<u32>),
     /// Check.
     Check,
+    /// Load with its movements, lent a list of answers of any length and content.
+    Load(Vec<Movement>, Vec<u32>),
+}
+
+impl Call {
+    /// The single call that makes this movement.
+    pub fn single(movement: &Movement) -> Call {
+        match movement.on {
+            0 => Call::Off(movement.key),
+            _ => Call::On(movement.key, movement.record.into()),
+        }
+    }
 }
 
 /// What a call gives back.
@@ -36,6 +48,8 @@ pub enum Outcome {
     Listed(Answer, Vec<u32>),
     /// Whether check says yes.
     Checked(bool),
+    /// The answer of load, and its list of answers.
+    Loaded(Answer, Vec<u32>),
 }
 
 /// W, E, P and the number of records.
@@ -91,6 +105,11 @@ pub fn call(tables: &mut Tables, call: &Call) -> Outcome {
             Outcome::Listed(answer, slice)
         }
         Call::Check => Outcome::Checked(calls::check(index, keys, used)),
+        Call::Load(movements, answers) => {
+            let mut answers = answers.clone();
+            let answer = calls::load(index, keys, used, movements, &mut answers);
+            Outcome::Loaded(answer, answers)
+        }
     }
 }
 
@@ -105,12 +124,7 @@ pub fn map_call(map: &mut Map, tables: &Tables, call: &Call) -> Outcome {
     match call {
         Call::Format(w, e, p) => Outcome::Answered(map.format(lengths, *w, *e, *p)),
         Call::On(key, record) => {
-            let neither = Room {
-                row_8: false,
-                row_7: false,
-            };
-            let room = || calls::room(index, keys, used, *key, *record).unwrap_or(neither);
-            Outcome::Answered(map.on(lengths, *key, *record, room))
+            Outcome::Answered(map.on(lengths, *key, *record, || room(tables, *key, *record)))
         }
         Call::Off(key) => Outcome::Answered(map.off(*key)),
         Call::Find(key) => Outcome::Answered(map.find(*key)),
@@ -120,7 +134,42 @@ pub fn map_call(map: &mut Map, tables: &Tables, call: &Call) -> Outcome {
             Outcome::Listed(answer, slice)
         }
         Call::Check => Outcome::Checked(map.check()),
+        Call::Load(movements, answers) => {
+            let mut answers = answers.clone();
+            let rooms = rooms(tables.clone(), movements);
+            let answer = map.load(lengths, movements, &mut answers, &rooms);
+            Outcome::Loaded(answer, answers)
+        }
     }
+}
+
+/// What stands for rows 8 and 7 where the map is not fed them.
+const NOT_FED: Room = Room {
+    row_8: false,
+    row_7: false,
+};
+
+/// What the map is fed of an on that gets these tables, if rows 2 to 5 let it
+/// pass.
+fn room(tables: &Tables, key: u64, record: u64) -> Room {
+    let Tables { index, keys, used } = tables;
+    calls::room(index, keys, used, key, record).unwrap_or(NOT_FED)
+}
+
+/// What the map is fed of the movements of a load that gets these tables: of
+/// each on, rows 8 and 7 for the tables that this movement gets, which are those
+/// that the single calls of all movements before it leave.
+fn rooms(mut tables: Tables, movements: &[Movement]) -> Vec<Room> {
+    let feed = |movement: &Movement| {
+        let single = Call::single(movement);
+        let room = match single {
+            Call::On(key, record) => room(&tables, key, record),
+            _ => NOT_FED,
+        };
+        call(&mut tables, &single);
+        room
+    };
+    movements.iter().map(feed).collect()
 }
 
 /// Follows a history through `run`, which makes one call on the tables or says
@@ -200,8 +249,17 @@ pub fn beside_model(
     }
 }
 
-/// Whether the call may change the tables: a done format, on or off.
+/// Whether the call may change the tables: a done format, on or off, or a done
+/// load of which a movement is done.
 fn changes(outcome: &Outcome, call: &Call) -> bool {
-    let changing = matches!(call, Call::Format(..) | Call::On(..) | Call::Off(..));
-    changing && *outcome == Outcome::Answered(Answer::done())
+    match (call, outcome) {
+        (Call::Format(..) | Call::On(..) | Call::Off(..), _) => {
+            *outcome == Outcome::Answered(Answer::done())
+        }
+        (Call::Load(movements, _), Outcome::Loaded(answer, answers)) => {
+            let mut beside = answers.iter().take(movements.len());
+            *answer == Answer::done() && beside.any(|&number| number == 0)
+        }
+        _ => false,
+    }
 }

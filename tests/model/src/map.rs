@@ -3,6 +3,7 @@
 //! "It sees no answer and no page."
 
 use crate::answer::Answer;
+use crate::calls::Movement;
 use crate::index::Room;
 use std::collections::BTreeMap;
 
@@ -88,6 +89,32 @@ impl Map {
             Some(_) => Answer::done(),
             None => Answer::refusal(6),
         }
+    }
+
+    /// 12 by its row; else 0, and each movement is the step of its on or off, in
+    /// their order, whose number stands beside it. The rest of the answers is
+    /// kept. There is a room for each movement; the map looks only at those of
+    /// ons that rows 2 to 5 let pass.
+    pub fn load(
+        &mut self,
+        lengths: Lengths,
+        movements: &[Movement],
+        answers: &mut [u32],
+        rooms: &[Room],
+    ) -> Answer {
+        if answers.len() < movements.len() {
+            return Answer::refusal(12);
+        }
+        for (place, movement) in movements.iter().enumerate() {
+            let step = if movement.on == 0 {
+                self.off(movement.key)
+            } else {
+                let record = u64::from(movement.record);
+                self.on(lengths, movement.key, record, || rooms[place])
+            };
+            answers[place] = step.number;
+        }
+        Answer::done()
     }
 
     /// "2; else 6 if the key is not held; else 0 and its record."

@@ -4,6 +4,7 @@ mod common;
 mod rewriting;
 
 use common::seeds;
+use model::calls::Movement;
 use model::history::{call, Call, Outcome};
 use model::index::Index;
 use model::leaf_list::leaf_list;
@@ -40,6 +41,11 @@ fn checked(tables: &Tables) -> bool {
 /// Every other call answers 1 on unsound tables and changes no byte.
 fn test_unsound(tables: &Tables) {
     let slice = vec![3, 1, 4];
+    let movement = Movement {
+        key: 0,
+        record: 0,
+        on: 1,
+    };
     let calls = [
         Call::On(0, 0),
         Call::On(u64::MAX, u64::MAX),
@@ -47,13 +53,19 @@ fn test_unsound(tables: &Tables) {
         Call::Find(0),
         Call::List(0, 1, slice.clone()),
         Call::Check,
+        Call::Load(vec![], slice.clone()),
+        Call::Load(vec![movement; 3], slice.clone()),
+        // 12 would apply too.
+        Call::Load(vec![movement; 4], slice.clone()),
     ];
     for made in calls {
         let mut after = tables.clone();
         match call(&mut after, &made) {
             Outcome::Checked(yes) => assert!(!yes),
             Outcome::Answered(answer) => assert_eq!(answer.number, 1),
-            Outcome::Listed(answer, kept) => assert_eq!((answer.number, &kept), (1, &slice)),
+            Outcome::Listed(answer, kept) | Outcome::Loaded(answer, kept) => {
+                assert_eq!((answer.number, &kept), (1, &slice));
+            }
         }
         assert_eq!(after, *tables, "{made:?} changed a byte");
     }
