@@ -1,9 +1,10 @@
 //! The shortest form of a failing history.
 
-use crate::history::{Failure, History};
+use crate::history::{Call, Failure, History};
 
 /// Tries a history made from a seed. If it fails, panics with the seed and the
-/// shortest prefix that still fails, from which single calls are dropped too.
+/// shortest prefix that still fails, from which single calls and single
+/// movements of loads are dropped too.
 pub fn must_hold<T>(
     seed: u64,
     history: &History,
@@ -28,20 +29,65 @@ pub fn shrink<T>(
     failure: Failure,
     attempt: impl Fn(&History) -> Result<T, Failure>,
 ) -> (History, Failure) {
-    let mut shortest = prefix(history, &failure);
-    let mut failure = failure;
-    let mut place = shortest.calls.len();
-    while place > 0 {
-        place -= 1;
-        let mut shorter = shortest.clone();
-        shorter.calls.remove(place);
-        if let Err(still) = attempt(&shorter) {
-            shortest = prefix(&shorter, &still);
-            failure = still;
-            place = place.min(shortest.calls.len());
+    let mut shortest = (prefix(history, &failure), failure);
+    loop {
+        let before = shortest.0.clone();
+        drop_calls(&mut shortest, &attempt);
+        drop_movements(&mut shortest, &attempt);
+        if shortest.0 == before {
+            return shortest;
         }
     }
-    (shortest, failure)
+}
+
+/// Drops single calls.
+fn drop_calls<T>(
+    shortest: &mut (History, Failure),
+    attempt: &impl Fn(&History) -> Result<T, Failure>,
+) {
+    let mut place = shortest.0.calls.len();
+    while place > 0 {
+        place -= 1;
+        let mut shorter = shortest.0.clone();
+        shorter.calls.remove(place);
+        take(shortest, shorter, attempt);
+        place = place.min(shortest.0.calls.len());
+    }
+}
+
+/// Drops single movements, each with the answer beside it.
+fn drop_movements<T>(
+    shortest: &mut (History, Failure),
+    attempt: &impl Fn(&History) -> Result<T, Failure>,
+) {
+    for place in (0..shortest.0.calls.len()).rev() {
+        let mut movement = match shortest.0.calls.get(place) {
+            Some(Call::Load(movements, _)) => movements.len(),
+            _ => 0,
+        };
+        while movement > 0 {
+            movement -= 1;
+            let mut shorter = shortest.0.clone();
+            if let Some(Call::Load(movements, answers)) = shorter.calls.get_mut(place) {
+                movements.remove(movement);
+                if movement < answers.len() {
+                    answers.remove(movement);
+                }
+                take(shortest, shorter, attempt);
+            }
+        }
+    }
+}
+
+/// Takes the shorter history if it still fails.
+fn take<T>(
+    shortest: &mut (History, Failure),
+    shorter: History,
+    attempt: &impl Fn(&History) -> Result<T, Failure>,
+) {
+    if let Err(still) = attempt(&shorter) {
+        *shortest = (prefix(&shorter, &still), still);
+    }
 }
 
 /// The history up to the call that fails.

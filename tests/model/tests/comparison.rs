@@ -3,6 +3,7 @@
 mod common;
 
 use common::seeds;
+use model::calls::Movement;
 use model::claims::claims;
 use model::compare::compare;
 use model::history::{beside_model, call, follow, Call, Failure, History, Outcome, Shape};
@@ -82,6 +83,13 @@ fn other_borders_make_a_difference() {
     assert!(differ >= 10, "only {differ} differ in their borders alone");
 }
 
+const SMALL: Shape = Shape {
+    width: 8,
+    entries: 3,
+    pages: 60,
+    records: 9,
+};
+
 /// The model, but an off of a key above 9 is forgotten.
 fn forgetful(tables: &mut Tables, made: &Call) -> Outcome {
     let before = tables.clone();
@@ -92,27 +100,56 @@ fn forgetful(tables: &mut Tables, made: &Call) -> Outcome {
     outcome
 }
 
+/// The model, but a load forgets its offs of keys above 9.
+fn forgetful_of_loads(tables: &mut Tables, made: &Call) -> Outcome {
+    let before = tables.clone();
+    let outcome = call(tables, made);
+    if let (Call::Load(movements, answers), Outcome::Loaded(..)) = (made, &outcome) {
+        let mut kept = movements.clone();
+        kept.retain(|movement| movement.on != 0 || movement.key <= 9);
+        if answers.len() >= movements.len() {
+            *tables = before;
+            call(tables, &Call::Load(kept, answers.clone()));
+        }
+    }
+    outcome
+}
+
+/// The shortest history that fails, of one made from a seed.
+fn shortest(seed: u64, run: fn(&mut Tables, &Call) -> Outcome) -> History {
+    let attempt = |history: &History| follow(history, |tables, made| Ok(run(tables, made)));
+    let history = history(&mut Random::new(seed), SMALL, 400);
+    let Err(failure) = attempt(&history) else {
+        panic!("seed {seed} forgets nothing");
+    };
+    let (shortest, failure): (History, Failure) = shrink(&history, failure, attempt);
+    assert!(attempt(&shortest).is_err());
+    assert_eq!(failure.calls, shortest.calls.len());
+    shortest
+}
+
+/// The movements of ons, offs and loads; other calls have none.
+fn movements(made: &Call) -> Vec<Movement> {
+    let movement = |key, record, on| Movement { key, record, on };
+    match made {
+        Call::On(key, record) => vec![movement(*key, *record as u32, 1)],
+        Call::Off(key) => vec![movement(*key, 0, 0)],
+        Call::Load(movements, _) => movements.clone(),
+        _ => vec![],
+    }
+}
+
 #[test]
 fn a_failing_history_is_shortened_to_what_fails() {
-    let shape = Shape {
-        width: 8,
-        entries: 3,
-        pages: 60,
-        records: 9,
-    };
-    let attempt = |history: &History| follow(history, |tables, made| Ok(forgetful(tables, made)));
-    for seed in seeds(10) {
-        let history = history(&mut Random::new(seed), shape, 400);
-        let Err(failure) = attempt(&history) else {
-            panic!("seed {seed} forgets nothing");
-        };
-        let (shortest, failure): (History, Failure) = shrink(&history, failure, attempt);
-        assert!(attempt(&shortest).is_err());
-        let [.., Call::On(on, _), Call::Off(off)] = shortest.calls[..] else {
+    let runs: [fn(&mut Tables, &Call) -> Outcome; 2] = [forgetful, forgetful_of_loads];
+    for (seed, run) in seeds(10).flat_map(|seed| runs.map(|run| (seed, run))) {
+        let shortest = shortest(seed, run);
+        let movements: Vec<Movement> = shortest.calls.iter().flat_map(movements).collect();
+        let [on, off] = movements[..] else {
             panic!("seed {seed}: {shortest:?}");
         };
-        assert!(on == off && off > 9, "seed {seed}: {shortest:?}");
-        assert_eq!(failure.calls, shortest.calls.len());
+        let undone = on.on != 0 && off.on == 0 && on.key == off.key;
+        assert!(undone && off.key > 9, "seed {seed}: {shortest:?}");
         assert!(shortest.calls.len() <= 3, "seed {seed}: {shortest:?}");
     }
 }
@@ -136,7 +173,8 @@ fn beside_the_model_page_numbers_are_free() {
     }
 }
 
-/// The model, but a find gives the next record and a list writes nothing.
+/// The model, but a find gives the next record, and a list and a load write
+/// nothing beside their answer.
 fn mistaken(tables: &mut Tables, made: &Call) -> Outcome {
     match (call(tables, made), made) {
         (Outcome::Answered(mut answer), Call::Find(_)) => {
@@ -146,28 +184,37 @@ fn mistaken(tables: &mut Tables, made: &Call) -> Outcome {
         (Outcome::Listed(answer, _), Call::List(_, _, slice)) => {
             Outcome::Listed(answer, slice.clone())
         }
+        (Outcome::Loaded(answer, _), Call::Load(_, answers)) => {
+            Outcome::Loaded(answer, answers.clone())
+        }
         (outcome, _) => outcome,
     }
 }
 
 #[test]
 fn beside_the_model_answers_slices_and_tables_are_not() {
-    let shape = Shape {
-        width: 8,
-        entries: 3,
-        pages: 60,
-        records: 9,
-    };
     let start = [Call::On(20, 0), Call::On(21, 1)];
     let fails = |last: Call, run: fn(&mut Tables, &Call) -> Outcome| {
         let calls = [&start[..], &[last]].concat();
-        let failure = follow(&History { shape, calls }, beside_model(run)).err();
+        let history = History {
+            shape: SMALL,
+            calls,
+        };
+        let failure = follow(&history, beside_model(run)).err();
         failure.is_some_and(|failure| failure.calls == 3)
+    };
+    let off = Movement {
+        key: 20,
+        record: 0,
+        on: 0,
     };
     assert!(fails(Call::Find(20), mistaken));
     assert!(fails(Call::List(0, 255, vec![7; 3]), mistaken));
     assert!(fails(Call::Off(20), forgetful));
     assert!(!fails(Call::Off(20), mistaken));
+    assert!(fails(Call::Load(vec![off], vec![7; 3]), mistaken));
+    assert!(fails(Call::Load(vec![off], vec![7; 3]), forgetful_of_loads));
+    assert!(!fails(Call::Load(vec![], vec![7; 3]), mistaken));
 }
 
 /// The register, the records held and the pages not reached are claimed.

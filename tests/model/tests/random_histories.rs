@@ -87,7 +87,7 @@ fn large_herds_in_day_book_pages() {
 
 #[test]
 fn histories_meet_every_answer_and_high_roots() {
-    let mut answers = BTreeSet::new();
+    let (mut answers, mut beside) = (BTreeSet::new(), BTreeSet::new());
     let mut highest = 0;
     for seed in seeds(60) {
         let mut random = Random::new(seed);
@@ -95,14 +95,24 @@ fn histories_meet_every_answer_and_high_roots() {
         let history = history(&mut random, shape, 150);
         let run = |tables: &mut Tables, made: &Call| {
             let outcome = call(tables, made);
-            if let Outcome::Answered(answer) | Outcome::Listed(answer, _) = &outcome {
-                answers.insert(answer.number);
+            match (&outcome, made) {
+                (Outcome::Answered(answer) | Outcome::Listed(answer, _), _) => {
+                    answers.insert(answer.number);
+                }
+                (Outcome::Loaded(answer, numbers), Call::Load(movements, _)) => {
+                    answers.insert(answer.number);
+                    if answer.number == 0 {
+                        beside.extend(numbers[..movements.len()].to_vec());
+                    }
+                }
+                _ => {}
             }
             highest = highest.max(read(tables.lent()).root.level());
             Ok(outcome)
         };
         follow(&history, run).expect("the history holds");
     }
-    assert_eq!(answers, BTreeSet::from([0, 2, 3, 4, 5, 6, 7, 8, 9]));
+    assert_eq!(answers, BTreeSet::from([0, 2, 3, 4, 5, 6, 7, 8, 9, 12]));
+    assert_eq!(beside, BTreeSet::from([0, 2, 3, 4, 5, 6, 7, 8]));
     assert!(highest >= 8, "no root above level {highest}");
 }

@@ -42,65 +42,86 @@ pub fn history(random: &mut Random, shape: Shape, count: usize) -> History {
 
 /// So many calls on tables of this shape, where this herd is held at first.
 pub fn calls(random: &mut Random, shape: Shape, herd: &Herd, count: usize) -> Vec<Call> {
-    let mut yard = Yard {
-        shape,
-        spread: *random.pick(&SPREADS),
-        on_percent: 50,
-        held: herd.clone(),
-    };
+    let mut yard = Yard::new(random, shape, herd);
     (0..count).map(|_| yard.call(random)).collect()
 }
 
 /// What the writer of a history believes of the tables. It does not know which
 /// calls are declined.
-struct Yard {
+pub(super) struct Yard {
     shape: Shape,
     spread: Spread,
     on_percent: usize,
-    held: Herd,
+    pub(super) held: Herd,
 }
 
 impl Yard {
-    fn call(&mut self, random: &mut Random) -> Call {
-        if random.percent(3) {
-            // Herds grow for a while, and then shrink for a while.
-            self.on_percent = *random.pick(&[10, 50, 90]);
-            self.spread = *random.pick(&SPREADS);
+    /// The yard where this herd is held.
+    pub(super) fn new(random: &mut Random, shape: Shape, herd: &Herd) -> Yard {
+        Yard {
+            shape,
+            spread: *random.pick(&SPREADS),
+            on_percent: 50,
+            held: herd.clone(),
         }
+    }
+
+    fn call(&mut self, random: &mut Random) -> Call {
+        self.turn(random);
         match random.below(100) {
             0 => self.format(random),
             1 | 2 => Call::Check,
             3..=12 => Call::Find(self.some_key(random)),
             13..=22 => self.list(random),
-            _ if random.percent(self.on_percent) => self.on(random),
-            _ => self.off(random),
+            23..=25 => self.load(random),
+            _ if self.is_on(random) => {
+                let key = self.some_key(random);
+                let record = self.some_record(random);
+                self.put_on(key, record);
+                Call::On(key, record)
+            }
+            _ => {
+                let key = self.held_key(random);
+                self.held.remove(&key);
+                Call::Off(key)
+            }
         }
     }
 
-    fn on(&mut self, random: &mut Random) -> Call {
-        let key = self.some_key(random);
+    /// Herds grow for a while, and then shrink for a while.
+    pub(super) fn turn(&mut self, random: &mut Random) {
+        if random.percent(3) {
+            self.on_percent = *random.pick(&[10, 50, 90]);
+            self.spread = *random.pick(&SPREADS);
+        }
+    }
+
+    /// Whether the next change is an on.
+    pub(super) fn is_on(&self, random: &mut Random) -> bool {
+        random.percent(self.on_percent)
+    }
+
+    /// A record for an on: mostly a free one.
+    pub(super) fn some_record(&self, random: &mut Random) -> u64 {
         let records = self.shape.records as u64;
         let taken: Vec<u64> = self.held.values().map(|&record| record.into()).collect();
         let free: Vec<u64> = (0..records)
             .filter(|record| !taken.contains(record))
             .collect();
-        let record = match random.below(20) {
+        match random.below(20) {
             0 => records + random.number() % 2,
             1 => random.number(),
             2 | 3 => random.number() % records,
             _ if free.is_empty() => random.number() % records,
             _ => *random.pick(&free),
-        };
-        if record < records {
-            self.held.entry(key).or_insert(record as u32);
         }
-        Call::On(key, record)
     }
 
-    fn off(&mut self, random: &mut Random) -> Call {
-        let key = self.held_key(random);
-        self.held.remove(&key);
-        Call::Off(key)
+    /// The key is believed to be held now.
+    pub(super) fn put_on(&mut self, key: u64, record: u64) {
+        if record < self.shape.records as u64 {
+            self.held.entry(key).or_insert(record as u32);
+        }
     }
 
     fn list(&self, random: &mut Random) -> Call {
@@ -140,7 +161,7 @@ impl Yard {
     }
 
     /// A held key, a neighbour of one, a new one, or one too wide.
-    fn some_key(&self, random: &mut Random) -> u64 {
+    pub(super) fn some_key(&self, random: &mut Random) -> u64 {
         match random.below(20) {
             0 => random.number(),
             1..=3 => self.held_key(random),
@@ -149,7 +170,7 @@ impl Yard {
         }
     }
 
-    fn held_key(&self, random: &mut Random) -> u64 {
+    pub(super) fn held_key(&self, random: &mut Random) -> u64 {
         let keys: Vec<u64> = self.held.keys().copied().collect();
         if keys.is_empty() || random.percent(5) {
             return key(random, self.shape.width, self.spread);

@@ -1,10 +1,11 @@
 //! Seeded random material for comparisons and measures: keys, tags, histories,
-//! day books, sound tables that no history makes, and damaged tables.
+//! loads, day books, sound tables that no history makes, and damaged tables.
 
 pub mod damage;
 pub mod day_books;
 pub mod histories;
 pub mod keys;
+pub mod loads;
 pub mod places;
 pub mod sound_tables;
 pub mod tags;
