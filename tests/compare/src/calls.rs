@@ -1,6 +1,7 @@
 //! Any call of a history, made on the proved library.
 
 use crate::list::list;
+use crate::loads::load;
 use crate::tag_index;
 use model::history::{Call, Outcome};
 use model::table::Tables;
@@ -22,5 +23,10 @@ pub fn call(tables: &mut Tables, made: &Call) -> Outcome {
             return Outcome::Listed(answer, slice);
         }
         Call::Check => return Outcome::Checked(tag_index::check(tables)),
+        Call::Load(movements, answers) => {
+            let mut answers = answers.clone();
+            let answer = load(tables, movements, &mut answers);
+            return Outcome::Loaded(answer, answers);
+        }
     })
 }

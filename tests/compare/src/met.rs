@@ -1,6 +1,7 @@
 //! What the calls of a test met.
 
 use model::answer::Answer;
+use model::calls::Movement;
 use model::history::{Call, Outcome};
 use model::index::Index;
 use model::pages::Page;
@@ -49,13 +50,30 @@ pub const EMPTIED: [&str; 6] = [
     "root lowered further",
 ];
 
+/// What `add_moved` can find: the numbers beside the movements of done loads,
+/// and what was done after which.
+pub const MOVED: [&str; 12] = [
+    "moved on 0",
+    "moved on 2",
+    "moved on 3",
+    "moved on 4",
+    "moved on 5",
+    "moved on 7",
+    "moved on 8",
+    "moved off 0",
+    "moved off 2",
+    "moved off 6",
+    "moved after a refusal",
+    "moved on after a 7",
+];
+
 impl Met {
     /// One more of these.
     pub fn add(&mut self, what: impl Into<String>) {
         *self.0.entry(what.into()).or_default() += 1;
     }
 
-    /// The call and its answer: "on 0", "check true".
+    /// The call and its answer, "on 0" or "check true", and what a load moved.
     pub fn add_answer(&mut self, made: &Call, outcome: &Outcome) {
         let name = match made {
             Call::Format(..) => "format",
@@ -64,13 +82,36 @@ impl Met {
             Call::Find(..) => "find",
             Call::List(..) => "list",
             Call::Check => "check",
+            Call::Load(..) => "load",
         };
         self.add(match outcome {
-            Outcome::Answered(answer) | Outcome::Listed(answer, _) => {
+            Outcome::Answered(answer) | Outcome::Listed(answer, _) | Outcome::Loaded(answer, _) => {
                 format!("{name} {}", answer.number)
             }
             Outcome::Checked(sound) => format!("check {sound}"),
         });
+        if let (Call::Load(movements, _), Outcome::Loaded(Answer { number: 0, .. }, answers)) =
+            (made, outcome)
+        {
+            self.add_moved(movements, answers);
+        }
+    }
+
+    /// The movements of a done load, each with the number beside it.
+    fn add_moved(&mut self, movements: &[Movement], numbers: &[u32]) {
+        let (mut refused, mut full) = (false, false);
+        for (movement, &number) in movements.iter().zip(numbers) {
+            let name = if movement.on == 0 { "off" } else { "on" };
+            self.add(format!("moved {name} {number}"));
+            if number == 0 && refused {
+                self.add("moved after a refusal");
+            }
+            if number == 0 && full && movement.on != 0 {
+                self.add("moved on after a 7");
+            }
+            refused |= number != 0;
+            full |= number == 7;
+        }
     }
 
     /// The call and its answer and, of a done on or off, what became of pages.

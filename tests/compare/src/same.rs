@@ -58,3 +58,22 @@ pub fn change(tables: &Tables, made: Call, met: &mut Met, what: &str) -> u32 {
         Err(how) => panic!("{what}: {made:?}: {how}"),
     }
 }
+
+/// Load answers as the model, and leaves the tables and its list of answers as
+/// the model does, page numbers aside, and all as its single calls do; a refused
+/// one leaves everything as it was. Gives its answer and its list.
+pub fn load(tables: &Tables, made: Call, met: &mut Met, what: &str) -> (Answer, Vec<u32>) {
+    let mut after = tables.clone();
+    match (beside(&mut after, &made, met), &made) {
+        (Ok(Outcome::Loaded(answer, answers)), Call::Load(_, lent)) => {
+            let kept = answers == *lent && after == *tables;
+            assert!(
+                answer.number == 0 || kept,
+                "{what}: a refused {made:?} changed something"
+            );
+            (answer, answers)
+        }
+        (Ok(other), _) => panic!("{what}: {made:?} gave {other:?}"),
+        (Err(how), _) => panic!("{what}: {made:?}: {how}"),
+    }
+}

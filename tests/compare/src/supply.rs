@@ -1,7 +1,10 @@
 //! Seeds, tables and keys for comparisons.
 
-use model::history::Call;
+use model::calls::Movement;
+use model::history::{Call, Shape};
+use model::index::Index;
 use model::random::keys::{key, largest_key, SPREADS};
+use model::random::loads::{answers, movements};
 use model::random::sound_tables::{any_sound_index, ENTRIES};
 use model::random::Random;
 use model::table::Tables;
@@ -77,4 +80,32 @@ pub fn some_change(random: &mut Random, tables: &Tables) -> Call {
         true => Call::On(key, some_record(random, tables)),
         false => Call::Off(key),
     }
+}
+
+/// The shape of an index.
+pub fn shape_of(index: &Index) -> Shape {
+    Shape {
+        width: index.width,
+        entries: index.most_entries,
+        pages: index.most_pages,
+        records: index.register.len(),
+    }
+}
+
+/// A load of so many movements, which follow one another on this index.
+pub fn load_on(random: &mut Random, index: &Index, count: usize) -> Call {
+    let movements = movements(random, shape_of(index), &index.herd(), count);
+    Call::Load(movements, answers(random, count))
+}
+
+/// A load of a few movements, each an on or an off of any tables.
+pub fn some_load(random: &mut Random, tables: &Tables) -> Call {
+    let count = random.below(6);
+    let movement = |_| Movement {
+        key: some_key(random, tables),
+        record: some_record(random, tables) as u32,
+        on: *random.pick(&[0, 0, 1, 1, 2, u32::MAX]),
+    };
+    let movements = (0..count).map(movement).collect();
+    Call::Load(movements, answers(random, count))
 }

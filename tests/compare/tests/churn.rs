@@ -5,126 +5,18 @@
 //! some of them the model goes along, and at their end the tables must be the
 //! model's up to page numbers.
 
-use compare::calls::call;
 use compare::merges::MERGES;
-use compare::met::{levels, Met, CUTS, EMPTIED};
+use compare::met::{Met, CUTS, EMPTIED};
+use compare::run::Run;
 use compare::supply::seeds;
-use compare::tag_index;
-use model::answer::Answer;
+use model::calls::Movement;
 use model::claims::claims;
-use model::compare::compare;
-use model::history::{map_call, Call, Failure, History, Outcome, Shape};
-use model::index::{Index, Room};
-use model::map::{Lengths, Map};
+use model::history::{Call, Failure, History, Shape};
 use model::random::keys::{key, largest_key, Spread, SPREADS};
+use model::random::loads::answers;
 use model::random::Random;
 use model::shrink::shrink;
-use model::table::{read, Tables};
-
-/// Tables, and what they are checked against.
-#[derive(Clone)]
-struct Run {
-    tables: Tables,
-    before: Tables,
-    map: Map,
-    /// The model, where it goes along.
-    model: Option<Index>,
-    /// Whether the last call was declined by 7 or 8.
-    no_room: bool,
-    met: Met,
-}
-
-impl Run {
-    fn new(shape: Shape) -> Run {
-        let mut tables = Tables::zero(shape.entries, shape.pages, shape.records);
-        let [w, e, p] = [shape.width, shape.entries, shape.pages].map(|number| number as u64);
-        assert_eq!(tag_index::format(&mut tables, w, e, p), Answer::done());
-        Run {
-            before: tables.clone(),
-            tables,
-            map: Map::new(w),
-            model: None,
-            no_room: false,
-            met: Met::default(),
-        }
-    }
-
-    /// Makes a call, whose outcome must be the map's and the model's.
-    fn step(&mut self, made: &Call) -> Result<(), String> {
-        self.before.index.copy_from_slice(&self.tables.index);
-        self.before.keys.copy_from_slice(&self.tables.keys);
-        self.before.used.copy_from_slice(&self.tables.used);
-        let outcome = call(&mut self.tables, made);
-        let model = self.model.clone().filter(|_| matches!(made, Call::Off(_)));
-        let expected = match made {
-            Call::On(key, record) => self.expected_on(*key, *record, &outcome),
-            Call::Off(key) => self.expected_off(*key)?,
-            _ => map_call(&mut self.map, &self.before, made),
-        };
-        if outcome != expected {
-            return Err(format!("{made:?}: {outcome:?}, not {expected:?}"));
-        }
-        let refused = |number| outcome == Outcome::Answered(Answer::refusal(number));
-        self.no_room = refused(7) || refused(8);
-        self.met.add_answer(made, &outcome);
-        let done = outcome == Outcome::Answered(Answer::done());
-        match made {
-            Call::On(..) if done => {
-                let (before, after) = (levels(&self.before), levels(&self.tables));
-                self.met.add_cuts(&before, &after);
-            }
-            Call::Off(key) if done => {
-                // What became of its pages is told where the model goes along.
-                let before = model.iter();
-                before.for_each(|before| self.met.add_off(before, *key));
-            }
-            _ if self.tables != self.before => return Err(format!("{made:?} changed a byte")),
-            _ => {}
-        }
-        Ok(())
-    }
-
-    /// The map's answer to an on. Rows 8 and 7 are the model's to tell: where it
-    /// does not go along, it is asked if the library says 8 or 7.
-    fn expected_on(&mut self, key: u64, record: u64, outcome: &Outcome) -> Outcome {
-        let number = match (&mut self.model, outcome) {
-            (Some(model), _) => model.on(key, record).err(),
-            (None, Outcome::Answered(Answer { number: 7 | 8, .. })) => {
-                read(self.before.lent()).on(key, record).err()
-            }
-            _ => None,
-        };
-        let lengths = Lengths {
-            index: self.tables.index.len(),
-            keys: self.tables.keys.len(),
-            used: self.tables.used.len(),
-        };
-        let room = Room {
-            row_8: number == Some(8),
-            row_7: number == Some(7),
-        };
-        Outcome::Answered(self.map.on(lengths, key, record, || room))
-    }
-
-    fn expected_off(&mut self, key: u64) -> Result<Outcome, String> {
-        let answer = self.map.off(key);
-        if let Some(model) = &mut self.model {
-            let number = model.off(key).err().unwrap_or(0);
-            if number != answer.number {
-                return Err(format!("off {key:#x}: the model says {number}"));
-            }
-        }
-        Ok(Outcome::Answered(answer))
-    }
-
-    /// Where the model goes along, its tables are the same up to page numbers.
-    fn compare(&self) -> Result<(), String> {
-        match &self.model {
-            Some(model) => compare(self.tables.lent(), Tables::of(model).lent()),
-            None => Ok(()),
-        }
-    }
-}
+use model::table::read;
 
 /// A run, and what it is made of.
 struct Churn {
@@ -150,6 +42,9 @@ struct Yard {
 impl Yard {
     fn call(&mut self, run: &Run) -> Call {
         self.turn(run);
+        if self.random.below(300) == 0 {
+            return self.load(run);
+        }
         let key = self.key(run);
         let random = &mut self.random;
         match random.below(100) {
@@ -206,6 +101,24 @@ impl Yard {
         let records = (first..used.len()).chain(0..first);
         let mut fitting = records.filter(|&record| used[record] == byte);
         fitting.next().unwrap_or(first) as u64
+    }
+
+    /// A load of at most 40 movements, of which some undo the one before.
+    fn load(&mut self, run: &Run) -> Call {
+        let count = self.random.below(41);
+        let mut movements: Vec<Movement> = Vec::new();
+        for _ in 0..count {
+            let grows = self.random.percent(if self.growing { 85 } else { 15 });
+            let record = self.record(run, 0) as u32;
+            let movement = |key, on| Movement { key, record, on };
+            movements.push(match movements.last() {
+                Some(last) if self.random.percent(15) => movement(last.key, 1 - last.on),
+                _ if grows => movement(self.key(run), 1),
+                _ => movement(self.held(run), 0),
+            });
+        }
+        let answers = answers(&mut self.random, count);
+        Call::Load(movements, answers)
     }
 
     fn list(&mut self, run: &Run) -> Call {
@@ -309,6 +222,11 @@ fn small_pages(width: usize, entries: usize, pages: usize, records: usize) -> Me
         &["off 0", "off 6", "find 0", "find 6", "list 0", "check true"],
     );
     met.assert(100, &CUTS);
+    met.assert(100, &["load 0", "moved on 0", "moved on 7", "moved off 0"]);
+    met.assert(
+        20,
+        &["load 12", "moved on after a 7", "moved after a refusal"],
+    );
     // Told where the model goes along.
     met.assert(10, &EMPTIED);
     met
@@ -367,5 +285,6 @@ fn the_day_books_tables() {
     let met = churn.run(seeds(1).start, 200_000);
     met.assert(100, &["on 0", "on 3", "on 4", "on 5", "off 0", "off 6"]);
     met.assert(100, &["one page taken"]);
+    met.assert(100, &["load 0", "moved on 0", "moved off 0"]);
     met.assert(10, &["joined left", "joined right"]);
 }

@@ -1,11 +1,12 @@
 //! Every history of on and off at small W: each page tree that any of them can
-//! make, changed by each key, beside the model.
+//! make, changed by each key and by a load, beside the model.
 
 use compare::beside::beside;
 use compare::merges::MERGES;
 use compare::met::{Met, CUTS, EMPTIED};
 use compare::tag_index;
 use model::answer::Answer;
+use model::calls::Movement;
 use model::history::{Call, Outcome};
 use model::pages::Page;
 use model::table::{read, Tables};
@@ -28,6 +29,28 @@ fn step(tables: &Tables, key: u64, met: &mut Met) -> Tables {
     next
 }
 
+/// A load that puts each key on, or takes it off if it is held, beginning with
+/// `first`, and then undoes that for `first`.
+fn load(tables: &Tables, first: usize, met: &mut Met) {
+    let keys = tables.used.len();
+    let movement = |at: usize| {
+        let key = (first + at) % keys;
+        let held = tables.used[key] == 1;
+        // After all the others the first key is held if it was not before.
+        let on = u32::from(held == (at == keys));
+        let [key, record] = [key as u64; 2];
+        let record = record as u32;
+        Movement { key, record, on }
+    };
+    let movements: Vec<Movement> = (0..=keys).map(movement).collect();
+    let answers = vec![7; keys + 2];
+    let loaded = [vec![0; keys + 1], vec![7]].concat();
+    let made = Call::Load(movements, answers);
+    let outcome = beside(&mut tables.clone(), &made, met);
+    let done = Ok(Outcome::Loaded(Answer::done(), loaded));
+    assert_eq!(outcome, done, "{made:?} after {:?}", tree(tables));
+}
+
 /// Makes every history and gives the number of different page trees.
 fn explore(width: usize, entries: usize, met: &mut Met) -> usize {
     let (keys, pages) = (1 << width, 40);
@@ -37,6 +60,7 @@ fn explore(width: usize, entries: usize, met: &mut Met) -> usize {
     let mut trees = HashSet::from([tree(&empty)]);
     let mut to_do = vec![empty];
     while let Some(tables) = to_do.pop() {
+        load(&tables, trees.len() % keys, met);
         for key in 0..keys as u64 {
             let next = step(&tables, key, met);
             if trees.insert(tree(&next)) {
@@ -58,5 +82,7 @@ fn every_history_of_few_bits() {
     met.assert(10, &CUTS);
     met.assert(10, &EMPTIED);
     met.assert(10, &["joined left", "joined right", "no page sparse"]);
-    met.assert_only(&[&["on 0", "off 0"], &CUTS[..], &EMPTIED, &MERGES].concat());
+    met.assert(100, &["load 0", "moved on 0", "moved off 0"]);
+    let answers = ["on 0", "off 0", "load 0", "moved on 0", "moved off 0"];
+    met.assert_only(&[&answers[..], &CUTS, &EMPTIED, &MERGES].concat());
 }

@@ -1,10 +1,11 @@
-//! Random histories of all six calls, from a done format on tables of random
-//! bytes: after every call the answer, the list slice and the tables are the
-//! model's, and all that is claimed of histories holds.
+//! Random histories of all calls, from a done format on tables of random bytes:
+//! after every call the answer, the list slice, the answers beside the movements
+//! of a load and the tables are the model's, and all that is claimed of histories
+//! holds.
 
 use compare::beside::beside;
 use compare::merges::MERGES;
-use compare::met::{Met, CUTS, EMPTIED};
+use compare::met::{Met, CUTS, EMPTIED, MOVED};
 use compare::supply::seeds;
 use model::history::{follow_from, Call, Failure, History, Shape};
 use model::map::Map;
@@ -16,7 +17,7 @@ use model::table::Tables;
 use std::cell::RefCell;
 
 /// Every answer of every call that a history can meet.
-const ANSWERS: [&str; 18] = [
+const ANSWERS: [&str; 20] = [
     "format 0",
     "format 9",
     "on 0",
@@ -35,6 +36,8 @@ const ANSWERS: [&str; 18] = [
     "list 0",
     "list 2",
     "check true",
+    "load 0",
+    "load 12",
 ];
 
 /// Tables of random bytes of this shape's lengths.
@@ -96,6 +99,7 @@ fn shapes_of_all_kinds() {
         hold(seed, &history(&mut random, shape, 120), &mut met);
     }
     met.assert(5, &ANSWERS);
+    met.assert(5, &MOVED);
     met.assert(
         5,
         &["joined left", "joined right", "root lowered by a join"],
@@ -121,7 +125,7 @@ fn every_width_with_two_entries_a_page() {
     }
     met.assert(5, &CUTS);
     met.assert(5, &EMPTIED);
-    met.assert(3, &["on 7", "on 8"]);
+    met.assert(3, &["on 7", "on 8", "moved on 7", "moved on 8"]);
 }
 
 /// Ons of keys in pairs that begin alike, which bring many dummies, and then

@@ -4,11 +4,10 @@
 use compare::beside::beside;
 use compare::merges::MERGES;
 use compare::met::{Met, CUTS, EMPTIED};
-use compare::supply::{seeds, some_change, sound_tables};
+use compare::supply::{seeds, shape_of, some_change, sound_tables};
 use compare::{same, tag_index};
 use model::answer::Answer;
 use model::history::{follow_from, Call, History, Outcome, Shape};
-use model::index::Index;
 use model::map::Map;
 use model::random::histories::calls;
 use model::random::keys::{key, largest_key, Spread, SPREADS};
@@ -18,15 +17,6 @@ use model::random::Random;
 use model::shrink::must_hold;
 use model::table::{header, read, stored_page, Tables};
 use std::cell::RefCell;
-
-fn shape_of(index: &Index) -> Shape {
-    Shape {
-        width: index.width,
-        entries: index.most_entries,
-        pages: index.most_pages,
-        records: index.register.len(),
-    }
-}
 
 fn root_level(tables: &Tables) -> usize {
     stored_page(&tables.index, header(&tables.index).root).level

@@ -122,7 +122,7 @@ fn tables_at_their_limits() {
 }
 
 /// Each call beside the model's on tables of its own, with a check and two finds
-/// after each on and off.
+/// after each on, off and load.
 #[test]
 fn tables_along_histories() {
     for seed in seeds(150) {
@@ -138,8 +138,9 @@ fn tables_along_histories() {
 fn with_reading(random: &mut Random, history: History) -> History {
     let mut calls = Vec::new();
     for made in history.calls {
-        let key = match made {
-            Call::On(key, _) | Call::Off(key) => Some(key),
+        let key = match &made {
+            Call::On(key, _) | Call::Off(key) => Some(*key),
+            Call::Load(movements, _) => movements.last().map(|movement| movement.key),
             _ => None,
         };
         calls.push(made);
