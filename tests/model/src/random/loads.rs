@@ -72,7 +72,11 @@ impl Yard {
     }
 
     fn on(&mut self, random: &mut Random, key: u64) -> Movement {
-        let record = self.some_record(random) as u32;
+        let mut record = self.some_record(random) as u32;
+        if random.percent(3) {
+            // One that is in the register if it is cut to 16 bits.
+            record |= 1 << random.between(16, 31);
+        }
         self.put_on(key, record.into());
         let any = 1 + random.below(u32::MAX as usize) as u32;
         let on = *random.pick(&[1, 1, 1, 2, 256, 1 << 31, u32::MAX, any]);
