@@ -42,7 +42,7 @@ struct Yard {
 impl Yard {
     fn call(&mut self, run: &Run) -> Call {
         self.turn(run);
-        if self.random.below(300) == 0 {
+        if self.random.percent(1) {
             return self.load(run);
         }
         let key = self.key(run);

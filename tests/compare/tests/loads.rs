@@ -46,7 +46,7 @@ fn numbers(tables: &Tables, movements: &[Movement]) -> Vec<u32> {
 #[test]
 fn random_borders_and_all_widths() {
     let mut met = Met::default();
-    for seed in seeds(2_500) {
+    for seed in seeds(4_000) {
         let mut random = Random::new(seed);
         let tables = sound_tables(&mut random);
         let most = *random.pick(&[1, 7, 40]);
@@ -64,7 +64,7 @@ fn random_borders_and_all_widths() {
 #[test]
 fn long_loads() {
     let mut met = Met::default();
-    for (seed, entries) in seeds(8).flat_map(|seed| (2..=8).map(move |entries| (seed, entries))) {
+    for (seed, entries) in seeds(12).flat_map(|seed| (2..=8).map(move |entries| (seed, entries))) {
         let mut random = Random::new(100 * seed + entries as u64);
         let width = random.between(1, 64);
         let index = sound_index(&mut random, width, entries, 40);
@@ -93,7 +93,7 @@ fn every_width() {
         let entries = random.between(2, 8);
         let pages = random.between(20, 150);
         let tables = formatted(width, entries, pages, 20);
-        let made = load_on(&mut random, &read(tables.lent()), 60);
+        let made = load_on(&mut random, &read(tables.lent()), 250);
         same::load(&tables, made, &mut met, &format!("W {width}"));
     }
     met.assert(50, &["load 0", "moved on 0", "moved off 0"]);
@@ -112,7 +112,7 @@ fn every_width() {
 #[test]
 fn the_day_books_pages() {
     let mut met = Met::default();
-    for seed in seeds(6) {
+    for seed in seeds(8) {
         let mut random = Random::new(seed);
         let tables = formatted(64, 60, 250, 400);
         let mut keys: Vec<u64> = (0..300)
