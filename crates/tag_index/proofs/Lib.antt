@@ -1,6 +1,10 @@
 pub mod Changes
 pub mod Histories
 pub mod Judging
+pub mod Lending
+pub mod LoadLaws
+pub mod LoadReads
+pub mod LoadSteps
 pub mod Runs
 pub mod ReachedPages
 pub mod RecordKeys

@@ -10,7 +10,8 @@ use Rattle.index_table.specs.Bytes.{AllZero}
 use Rattle.index_table.specs.Layout.{Ref, layoutOf, pageBytes, levelOf, countOf, refsOf}
 use Rattle.index_table.specs.Header.{entriesOf, pagesOf, rootOf, heldOf}
 use Rattle.index_table.specs.Soundness.{leafEntries}
-use Rattle.tag_index.specs.Histories.{Tables, Call, Reply, OrderedMap, Sizes, Feed, keyWith, mapReplies, mapBehind}
+use Rattle.tag_index.specs.Tables.{Tables}
+use Rattle.tag_index.specs.Histories.{Call, Reply, OrderedMap, Sizes, Feed, keyWith, mapReplies, mapBehind}
 
 -- The bytes of a page, and its entries.
 abbrev pub bytesOfPage : List ℕ → ℕ → List ℕ
