@@ -8,6 +8,7 @@ pub mod LoadSteps
 pub mod Runs
 pub mod ReachedPages
 pub mod RecordKeys
+pub mod SingleCalls
 pub mod MapSteps
 pub mod Corollaries
 pub mod MapExamples

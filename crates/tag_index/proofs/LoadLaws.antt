@@ -24,7 +24,7 @@ empty = record { key = 0; «record» = 0; on = 0 }
 -- ---- one movement
 
 -- An answer that sets its number alone is known by it.
-plain-number : {n : ℕ} {a : Answer} → a ≡ plain n → a ≡ plain (a .number)
+pub plain-number : {n : ℕ} {a : Answer} → a ≡ plain n → a ≡ plain (a .number)
 plain-number e = e ∙ ap (λ (x : Answer). plain (x .number)) (sym e)
 
 pub moved-off : {t u : Tables} {key : ℕ} (r on : ℕ) {answers : List ℕ} (i : ℕ) {a : Answer} → on ≡ 0 → OffChanges (t .index) (t .keys) (t .used) key (u .index) (u .keys) (u .used) a
@@ -50,7 +50,7 @@ sound-same : {t u : Tables} → (u .index ≡ t .index) × (u .keys ≡ t .keys)
 sound-same e s = rw (e .0, e .1, e .2) s
 
 -- By whether a row applies.
-by-row : {X : Type 0} (row : ℕ) → (row ≡ 0 → X) → (row ≢ 0 → X) → X
+pub by-row : {X : Type 0} (row : ℕ) → (row ≡ 0 → X) → (row ≢ 0 → X) → X
 by-row zero f g = f refl
 by-row (suc row) f g = g (λ e. omega (arith, e))
 
