@@ -6,7 +6,8 @@ use native.Mathlib.Omega.{arith}
 use contract.Lifetimes.{Lfts}
 use denote.Ref.{RefT}
 use lib.ListN.{length, take, drop-of-length-le}
-use Rattle.tag_index.specs.Histories.{Tables, Feed, emptyMap}
+use Rattle.tag_index.specs.Tables.{Tables}
+use Rattle.tag_index.specs.Histories.{Feed, emptyMap}
 use Rattle.tag_index.specs.Claims.{Agrees}
 use Rattle.tag_index.proofs.Runs.{Lent}
 use Rattle.book_input.specs.declared.Progress.{Progress}

@@ -7,7 +7,7 @@ use native.Mathlib.Omega.{arith}
 use lib.ListN.{length, take, drop, length-drop, length-append, drop-of-length-le}
 use lib.Seq.{take-all, take-at, drop-at, drop-drop, take-add, length-take-le}
 use borrow.Rule.Slice.PartMut.{putMid, midOf, postOf}
-use Rattle.tag_index.specs.Histories.{Tables}
+use Rattle.tag_index.specs.Tables.{Tables}
 use Rattle.book_input.specs.declared.Progress.{Progress}
 use Rattle.book_input.specs.declared.Next.{Next}
 use Rattle.book_input.specs.Lines.{begunBefore}

@@ -3,7 +3,8 @@ use mathlib.Core.Path.{_≡_}
 use mathlib.Core.List.{List, _++_}
 use Prim.Native.Nat.{ℕ, suc, _+_, _-_, _≤_, _<_}
 use lib.ListN.{length, take, drop}
-use Rattle.tag_index.specs.Histories.{Tables, Feed}
+use Rattle.tag_index.specs.Tables.{Tables}
+use Rattle.tag_index.specs.Histories.{Feed}
 use Rattle.book_input.specs.declared.Progress.{Progress}
 use Rattle.book_input.specs.Gathering.{Passes}
 use Rattle.book_input.specs.Progress.{lastNumber}

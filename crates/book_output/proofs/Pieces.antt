@@ -5,7 +5,8 @@ use mathlib.Core.List.{List, [], _++_, append-nil}
 use Prim.Native.Nat.{ℕ, suc, _+_, _-_, _≤_, _<_}
 use native.Mathlib.Omega.{arith}
 use lib.ListN.{length, length-append, drop-of-length-le}
-use Rattle.tag_index.specs.Histories.{Tables, Feed}
+use Rattle.tag_index.specs.Tables.{Tables}
+use Rattle.tag_index.specs.Histories.{Feed}
 use Rattle.book_input.specs.declared.Progress.{Progress}
 use Rattle.book_input.specs.Lines.{linesMet, leftOpen}
 use Rattle.book_input.specs.Gathering.{Passes}

@@ -4,7 +4,8 @@ use mathlib.Core.Bool.{true, false}
 use mathlib.Core.List.{List, []}
 use Prim.Native.Nat.{ℕ, suc, _+_, _≤_, _<_}
 use lib.ListN.{length, take}
-use Rattle.tag_index.specs.Histories.{Tables, Feed}
+use Rattle.tag_index.specs.Tables.{Tables}
+use Rattle.tag_index.specs.Histories.{Feed}
 use Rattle.book_input.specs.Lines.{begunBefore, linesMet, leftOpen}
 use Rattle.day_book.specs.LineAnswers.{Told}
 use Rattle.book_input.specs.Progress.{lastNumber}

@@ -10,7 +10,8 @@ use Rattle.table_find.specs.declared.answer.Answer.{Answer}
 use Rattle.table_format.specs.Format.{formatFits, FormatDoes}
 use Rattle.table_format.proofs.EmptySound.{format-sound, format-lengths, format-width, format-empties}
 use Rattle.table_format.proofs.format.Reads as format-reads
-use Rattle.tag_index.specs.Histories.{Tables, Reply, OrderedMap, Sizes, sizesOf, Feed, nothingFed, emptyMap, formats}
+use Rattle.tag_index.specs.Tables.{Tables}
+use Rattle.tag_index.specs.Histories.{Reply, OrderedMap, Sizes, sizesOf, Feed, nothingFed, emptyMap, formats}
 use Rattle.tag_index.specs.Claims.{Agrees}
 use Rattle.tag_index.proofs.Runs.{Lent}
 use Rattle.tag_index.proofs.MapSteps.{Holds, on-does-step, off-does-step, find-does-step, list-does-step}

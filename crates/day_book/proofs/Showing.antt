@@ -21,7 +21,7 @@ use Rattle.tag_index.specs.Reading.{firstRow, behind, keptBehind, FindDoes, Lis
 use Rattle.table_change.specs.Changes.{tooWide}
 use Rattle.book_answers.specs.Writing.{RecordNumbers, Writable, AnswerWritten}
 use Rattle.day_book.specs.Books.{Shown, slice}
-use Rattle.tag_index.specs.Histories.{Tables}
+use Rattle.tag_index.specs.Tables.{Tables}
 use Rattle.book_lines.specs.declared.Said.{Said}
 use Rattle.book_lines.specs.declared.Said.the-variants.{Bad, OutOfRange}
 use Rattle.book_lines.specs.Lines.{meaning}

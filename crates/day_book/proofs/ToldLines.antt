@@ -4,7 +4,8 @@ use mathlib.Core.List.{List, [], _∷_, _++_, map, append-assoc, append-nil}
 use Prim.Native.Nat.{ℕ, _+_}
 use native.Mathlib.Omega.{arith}
 use lib.ListN.{length, take}
-use Rattle.tag_index.specs.Histories.{Tables, Feed}
+use Rattle.tag_index.specs.Tables.{Tables}
+use Rattle.tag_index.specs.Histories.{Feed}
 use Rattle.book_lines.specs.declared.Said.{Said}
 use Rattle.book_lines.specs.Lines.{meaning}
 use Rattle.book_lines.proofs.LineLaws.{says-cut}

@@ -6,7 +6,8 @@ use lib.Dec.{eqb}
 use lib.ListN.{take, replicate}
 use Rattle.table_find.specs.declared.answer.Answer.{Answer}
 use Rattle.table_find.specs.Answers.{plain}
-use Rattle.tag_index.specs.Histories.{Tables, on, off, find, list, Reply, answered, sliced, said, OrderedMap, Sizes, Feed, nothingFed, feedOf, mapReply, mapAfter}
+use Rattle.tag_index.specs.Tables.{Tables}
+use Rattle.tag_index.specs.Histories.{on, off, find, list, Reply, answered, sliced, said, OrderedMap, Sizes, Feed, nothingFed, onFed, mapReply, mapAfter}
 use Rattle.book_lines.specs.declared.Said.{Said}
 use Rattle.book_lines.specs.declared.Said.the-variants.{On, Off, Find, List as Lists, Bad, OutOfRange}
 use Rattle.book_lines.specs.Lines.{meaning}
@@ -63,7 +64,7 @@ mapSaid z f m OutOfRange = m
 
 -- What the map is fed of the tables that an on gets.
 abbrev pub feedOfSaid : Tables → Said → Feed
-feedOfSaid t (On key r) = feedOf t (on key r)
+feedOfSaid t (On key r) = onFed t key r
 feedOfSaid t (Off key) = nothingFed
 feedOfSaid t (Find key) = nothingFed
 feedOfSaid t (Lists a b) = nothingFed

@@ -6,7 +6,8 @@ use lib.ListN.{length, take, drop}
 use Rattle.table_find.specs.declared.answer.Answer.{Answer}
 use Rattle.tag_index.specs.Changing.{OnDoes, OffDoes}
 use Rattle.tag_index.specs.Reading.{FindDoes, ListDoes}
-use Rattle.tag_index.specs.Histories.{Tables, Feed}
+use Rattle.tag_index.specs.Tables.{Tables}
+use Rattle.tag_index.specs.Histories.{Feed}
 use Rattle.book_lines.specs.declared.Said.{Said}
 use Rattle.book_lines.specs.declared.Said.the-variants.{On, Off, Find, List as Lists, Bad, OutOfRange}
 use Rattle.book_lines.specs.Lines.{meaning}

@@ -85,6 +85,17 @@ module _ (w : ℕ) (keys used : List ℕ) (r key byte : ℕ) (sound : SoundRegis
 pub numbered-tree : (index : List ℕ) → treeAside (numberedTreeOf index) ≡ treeOf index
 numbered-tree index = tree-aside 65535 (pagesAt (layoutOf (entriesOf index)) index) (rootLevel index) (rootOf index)
 
+-- The trees that on and off leave, page numbers aside.
+pub on-tree : (index index₁ : List ℕ) (fresh : ℕ → List ℕ) (w E : ℕ) (keyOf : ℕ → ℕ) (key r : ℕ)
+    → numberedTreeOf index₁ ≡ onNumbered E fresh w keyOf key r (numberedTreeOf index) → treeOf index₁ ≡ onTree w E keyOf key r (treeOf index)
+on-tree index index₁ fresh w E keyOf key r tree =
+    sym (numbered-tree index₁) ∙ ap treeAside tree ∙ on-aside E fresh w keyOf key r (numberedTreeOf index) ∙ ap (onTree w E keyOf key r) (numbered-tree index)
+
+pub off-tree : (index index₁ : List ℕ) (w E key : ℕ) → numberedTreeOf index₁ ≡ offNumbered w E key (numberedTreeOf index)
+    → treeOf index₁ ≡ offTree w E key (treeOf index)
+off-tree index index₁ w E key tree =
+    sym (numbered-tree index₁) ∙ ap treeAside tree ∙ off-aside w E key (numberedTreeOf index) ∙ ap (offTree w E key) (numbered-tree index)
+
 module _ {index keys used : List ℕ} (s : Sound index keys used) where
   -- The tree of sound tables is one over the leaf list of their herd.
   pub herd-tree : HerdTree (widthOf index) (entriesOf index) (herdOf keys used) (treeOf index)
@@ -135,7 +146,7 @@ module _ {index keys used : List ℕ} (s : Sound index keys used) where
         sound-changed (suc (heldOf index)) index₁ r key 1 header long pages
         (register-changed (widthOf index) keys used r key 1 (s .register) (s .lengths .register) inside
         (record { byte = inr refl; free = λ z. absurd (omega (arith, z)); narrow = λ z. narrow }) (λ z j n u. no-other j u))
-        (ap leavesOf after
+        (ap leavesOf (on-tree index index₁ fresh w E (keyAt keys) key r tree)
         ∙ on-pages w E herd (treeOf index) (herd-narrow s) (herd-sorted s) herd-tree (keyAt keys) key r narrow (herd-keys s) absent (s .limits .entries-low) .level0
         ∙ ap (leafList w) (sym herd-on))
         (ap suc (sym (herd-held s)) ∙ sym (length-add key r herd) ∙ ap length (sym herd-on))
@@ -148,13 +159,6 @@ module _ {index keys used : List ℕ} (s : Sound index keys used) where
 
         herd : Herd
         herd = herdOf keys used
-
-        after : treeOf index₁ ≡ onTree w E (keyAt keys) key r (treeOf index)
-        after =
-            sym (numbered-tree index₁)
-            ∙ ap treeAside tree
-            ∙ on-aside E fresh w (keyAt keys) key r (numberedTreeOf index)
-            ∙ ap (onTree w E (keyAt keys) key r) (numbered-tree index)
 
   -- ---- off
 
@@ -187,7 +191,7 @@ module _ {index keys used : List ℕ} (s : Sound index keys used) where
         sound-changed (heldOf index - 1) index₁ r 0 0 header long pages
         (register-changed (widthOf index) keys used r 0 0 (s .register) (s .lengths .register) (in-use-inside s r (found-record .0))
         (record { byte = inl refl; free = λ z. refl; narrow = λ z. absurd (omega (arith, z)) }) (λ z. absurd (omega (arith, z))))
-        (ap leavesOf after
+        (ap leavesOf (off-tree index index₁ w E key tree)
         ∙ off-leaves narrow
         ∙ ap (leafList w) (sym herd-off))
         (omega (arith, herd-held s, length-remove key r herd found) ∙ ap length (sym herd-off))
@@ -200,7 +204,3 @@ module _ {index keys used : List ℕ} (s : Sound index keys used) where
 
         herd : Herd
         herd = herdOf keys used
-
-        after : treeOf index₁ ≡ offTree w E key (treeOf index)
-        after =
-            sym (numbered-tree index₁) ∙ ap treeAside tree ∙ off-aside w E key (numberedTreeOf index) ∙ ap (offTree w E key) (numbered-tree index)

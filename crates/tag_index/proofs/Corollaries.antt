@@ -6,7 +6,7 @@ use mathlib.Core.Option.{Option, none, some}
 use mathlib.Core.List.{List, [], _∷_}
 use Prim.Native.Nat.{ℕ, zero, suc, _^_, _<_}
 use native.Mathlib.Omega.{arith}
-use lib.Dec.{leb, eqb}
+use lib.Dec.{leb, ltb, eqb}
 use lib.ListN.{length}
 use borrow.Author.Tests.{eqb-true, eqb-false, eq-eqb, ne-eqb, lt-leb}
 use Rattle.leaf_list.specs.Entries.{Entry, entry}
@@ -28,7 +28,8 @@ use Rattle.table_find.specs.Answers.{plain, withRecord, found}
 use Rattle.table_list.specs.Ranges.{recordsBetween, listed}
 use Rattle.table_change.specs.Changes.{tooWide, isSome, isHeld, onRow, offRow}
 use Rattle.tag_index.specs.Reading.{firstRow, behind}
-use Rattle.tag_index.specs.Histories.{Tables, Call, format, on, off, find, list, check, Reply, answered, sliced, said, OrderedMap, Sizes, sizesOf, Feed, formats, keyWith, mapReply, mapAfter, mapReplies, nothingFed}
+use Rattle.tag_index.specs.Tables.{Tables}
+use Rattle.tag_index.specs.Histories.{Call, format, on, off, find, list, check, load, Reply, answered, sliced, said, OrderedMap, Sizes, sizesOf, Feed, formats, keyWith, mapReply, mapAfter, mapReplies, nothingFed}
 use Rattle.tag_index.specs.Claims.{entriesOfPage}
 use Rattle.tag_index.proofs.MapSteps.{Holds, finds-step, lists-step}
 use Rattle.tag_index.proofs.Runs.{Finds, Lists, History, mapOf}
@@ -179,6 +180,10 @@ off-not-one true held q = omega (arith, q)
 off-not-one false true q = omega (arith, q)
 off-not-one false false q = omega (arith, q)
 
+load-not-one : (short : Bool) → _≢_ {A = ℕ} (cond short 12 0) 1
+load-not-one true q = omega (arith, q)
+load-not-one false q = omega (arith, q)
+
 behind-not-one : (wide : Bool) (done : Answer) → done .number ≢ 1 → behind (cond wide 2 0) done .number ≢ 1
 behind-not-one true done n q = omega (arith, q)
 behind-not-one false done n q = n q
@@ -191,13 +196,14 @@ found-not-one (some r) q = omega (arith, q)
 map-not-one : (z : Sizes) (f : Feed) (m : OrderedMap) (c : Call) → NotOne (mapReply z f m c)
 map-not-one z f m (format w e p) = format-not-one (formats z w e p)
 map-not-one z f m (on key r) =
-    on-not-one (tooWide (m .width) key) (leb (z .used) r) (isSome (keyWith r (m .herd))) (isHeld key (m .herd)) (f .eight) (f .seven)
+    on-not-one (tooWide (m .width) key) (leb (z .used) r) (isSome (keyWith r (m .herd))) (isHeld key (m .herd)) (f .late .eight) (f .late .seven)
 map-not-one z f m (off key) = off-not-one (tooWide (m .width) key) (isHeld key (m .herd))
 map-not-one z f m (find key) =
     behind-not-one (tooWide (m .width) key || tooWide (m .width) key) (found (lookup key (m .herd))) (found-not-one (lookup key (m .herd)))
 map-not-one z f m (list a b out) =
     behind-not-one (tooWide (m .width) a || tooWide (m .width) b) (listed (recordsBetween a b (m .herd)) (length out)) (λ q. omega (arith, q))
 map-not-one z f m check = refl
+map-not-one z f m (load xs answers) = load-not-one (ltb (length answers) (length xs))
 
 -- to any call of a history.
 replies-not-one : (z : Sizes) (m : OrderedMap) (cs : List Call) (fs : List Feed) → All NotOne (mapReplies z m cs fs)

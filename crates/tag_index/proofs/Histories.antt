@@ -1,16 +1,18 @@
--- Every history of format, on, off, find, list and check calls answers as the ordered map does, and leaves tables that agree with it. Assumes nothing.
+-- Every history of format, on, off, find, list, check and load calls answers as the ordered map does, and leaves tables that agree with it. Assumes nothing.
 use mathlib.Core.Path.{_≡_, refl, ap, ap₂, sym, _∙_}
 use mathlib.Core.List.{List, _∷_}
 use lib.ListN.{length}
 use Rattle.leaf_list.specs.Herd.{Herd}
 use Rattle.index_table.proofs.SoundTables.{herd-held}
 use Rattle.table_format.proofs.EmptySound.{format-sound, format-lengths, format-width, format-empties}
-use Rattle.tag_index.specs.Histories.{Tables, Call, Reply, OrderedMap, Sizes, sizesOf, Feed, keyWith, emptyMap, mapAfter, mapReplies, mapBehind}
+use Rattle.tag_index.specs.Tables.{Tables}
+use Rattle.tag_index.specs.Histories.{Call, Reply, OrderedMap, Sizes, sizesOf, Feed, keyWith, emptyMap, mapAfter, mapReplies, mapBehind}
 use Rattle.tag_index.specs.Claims.{byteAndKey, Agrees, Follows}
 use Rattle.tag_index.proofs.MapSteps.{Holds, Step, formats-step, ons-step, offs-step, finds-step, lists-step, checks-step}
+use Rattle.tag_index.proofs.LoadSteps.{loads-step}
 use Rattle.tag_index.proofs.ReachedPages.{reached-in-use, other-zero}
 use Rattle.tag_index.proofs.RecordKeys.{record-says}
-use Rattle.tag_index.proofs.Runs.{Run, History, end, formats as formats-run, ons, offs, finds, lists, checks, formats-does}
+use Rattle.tag_index.proofs.Runs.{Run, History, end, formats as formats-run, ons, offs, finds, lists, checks, loads, formats-does}
 
 -- Tables that hold a map agree with it.
 pub agrees : {z : Sizes} {m : OrderedMap} {t : Tables} → Holds z m t → Agrees m t
@@ -47,6 +49,9 @@ runs h (offs s run) =
 runs h (finds s run) = before (finds-step h s) (runs h run)
 runs h (lists s run) = before (lists-step h s) (runs h run)
 runs h (checks s run) = before (checks-step h s) (runs h run)
+runs h (loads s run) =
+    let step = loads-step h s in
+    before step (runs (step .holds) run)
 
 module _ {calls : List Call} {feeds : List Feed} {replies : List Reply} {left : Tables} (h : History calls feeds replies left) where
   pub history-runs : Runs (sizesOf (h .given)) (emptyMap (h .width)) calls feeds replies left

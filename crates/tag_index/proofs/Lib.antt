@@ -1,9 +1,14 @@
 pub mod Changes
 pub mod Histories
 pub mod Judging
+pub mod Lending
+pub mod LoadLaws
+pub mod LoadReads
+pub mod LoadSteps
 pub mod Runs
 pub mod ReachedPages
 pub mod RecordKeys
+pub mod SingleCalls
 pub mod MapSteps
 pub mod Corollaries
 pub mod MapExamples

@@ -1,6 +1,6 @@
 -- The ordered map on 01's small examples of the rows (W 8, 4 records). Assumes nothing.
 use mathlib.Core.Path.{_≡_, refl}
-use mathlib.Core.Bool.{true, false}
+use mathlib.Core.Bool.{Bool, true, false}
 use mathlib.Core.List.{List, [], _∷_}
 use Rattle.table_find.specs.Answers.{plain, withRecord, withCount}
 use Rattle.table_format.specs.Format.{formatFits}
@@ -25,14 +25,17 @@ feeds =
     ∷ nothingFed
     ∷ nothingFed ∷ nothingFed ∷ nothingFed ∷ nothingFed ∷ nothingFed ∷ nothingFed ∷ []
   where
+    fed : Bool → Bool → Feed
+    fed eight seven = record { late = record { eight = eight; seven = seven }; lates = [] }
+
     both : Feed
-    both = record { eight = true; seven = true }
+    both = fed true true
 
     eight : Feed
-    eight = record { eight = true; seven = false }
+    eight = fed true false
 
     seven : Feed
-    seven = record { eight = false; seven = true }
+    seven = fed false true
 
 abbrev pub replies : List Reply
 replies =

@@ -20,7 +20,8 @@ use Rattle.table_change.specs.Changes.{tooWide, isSome, isHeld, onRow, onRowOf,
 use Rattle.table_change.proofs.SoundAfter.{herd-on, herd-off}
 use Rattle.tag_index.specs.Changing.{OnDoes, OffDoes, rowBehind}
 use Rattle.tag_index.specs.Reading.{Judged, FindDoes, ListDoes}
-use Rattle.tag_index.specs.Histories.{Tables, Call, format, on, off, find, list, check, Reply, answered, sliced, said, OrderedMap, Sizes, sizesOf, Feed, feedOf, formats, emptyMap, mapOnRow, mapOffRow, mapReply, mapAfter}
+use Rattle.tag_index.specs.Tables.{Tables}
+use Rattle.tag_index.specs.Histories.{Call, format, on, off, find, list, check, Reply, answered, sliced, said, OrderedMap, Sizes, sizesOf, lateOf, Feed, onFed, formats, emptyMap, mapOnRow, mapOffRow, mapReply, mapAfter}
 use Rattle.tag_index.proofs.RecordKeys.{record-taken}
 use Rattle.tag_index.proofs.Runs.{Formats, Ons, Offs, Finds, Lists, Checks, formats-does, ons-does, offs-does, finds-does, lists-does, checks-does}
 
@@ -37,7 +38,7 @@ pub record Step (z : Sizes) (f : Feed) (m : OrderedMap) (c : Call) (x : Reply) (
   pub holds : Holds z (mapAfter z f m c) u
 
 -- Sound tables are judged sound.
-judged-sound : {index keys used : List ℕ} → Sound index keys used → (j : Judged index keys used) → j .sound ≡ true
+pub judged-sound : {index keys used : List ℕ} → Sound index keys used → (j : Judged index keys used) → j .sound ≡ true
 judged-sound s j = j .decides .1 s
 
 -- Tables that are as they were hold what they held.
@@ -132,12 +133,8 @@ module _ {z : Sizes} {m : OrderedMap} {t u : Tables} (h : Holds z m t) (r key by
 -- ---- on
 
 module _ {z : Sizes} {m : OrderedMap} {t u : Tables} {key r : ℕ} {a : Answer} (h : Holds z m t) (does : OnDoes (t .index) (t .keys) (t .used) key r (u .index) (u .keys) (u .used) a) where
-  fed : Feed
-  fed = feedOf t (on key r)
-
   -- The row that applies to the tables is the row that applies to the map.
-  on-row : rowBehind (does .judged) (onRowOf (t .index) (t .keys) (t .used) key r) ≡ mapOnRow z fed m key r
-  unfolding fed
+  on-row : rowBehind (does .judged) (onRowOf (t .index) (t .keys) (t .used) key r) ≡ mapOnRow z (lateOf t key r) m key r
   on-row =
       rw (judged-sound (h .sound) (does .judged), record-taken (t .keys) (t .used) r, h .width, h .herd, ap (λ (y : Sizes). y .used) (h .sizes)) refl
 
@@ -158,8 +155,7 @@ module _ {z : Sizes} {m : OrderedMap} {t u : Tables} {key r : ℕ} {a : Answer} 
       holds-same h (o .0) (o .1) (o .2)
 
 pub on-does-step : {z : Sizes} {m : OrderedMap} {t u : Tables} {key r : ℕ} {a : Answer} → Holds z m t
-    → OnDoes (t .index) (t .keys) (t .used) key r (u .index) (u .keys) (u .used) a → Step z (feedOf t (on key r)) m (on key r) (answered a) u
-unfolding fed
+    → OnDoes (t .index) (t .keys) (t .used) key r (u .index) (u .keys) (u .used) a → Step z (onFed t key r) m (on key r) (answered a) u
 on-does-step {t = t} {key = key} {r = r} h does =
     record {
       reply = ap answered (does .answer ∙ ap plain (on-row h does));
@@ -167,7 +163,7 @@ on-does-step {t = t} {key = key} {r = r} h does =
     }
 
 pub ons-step : {z : Sizes} {m : OrderedMap} {t u : Tables} {key r : ℕ} {a : Answer} → Holds z m t → Ons key r t u a
-    → Step z (feedOf t (on key r)) m (on key r) (answered a) u
+    → Step z (onFed t key r) m (on key r) (answered a) u
 ons-step h s = on-does-step h (ons-does s)
 
 -- ---- off

@@ -11,13 +11,17 @@ use Rattle.table_find.specs.declared.answer.Answer.{Answer}
 use Rattle.table_format.specs.Format.{FormatDoes}
 use Rattle.tag_index.specs.Changing.{OnDoes, OffDoes}
 use Rattle.tag_index.specs.Reading.{FindDoes, ListDoes}
-use Rattle.tag_index.specs.Histories.{Tables, Call, format, on, off, find, list, check, Reply, answered, sliced, said, OrderedMap, sizesOf, Feed, feedOf, formats as fits, emptyMap, mapBehind}
+use Rattle.tag_index.specs.declared.load.Movement.{Movement}
+use Rattle.tag_index.specs.Tables.{Tables}
+use Rattle.tag_index.specs.Loads.{LoadDoes}
+use Rattle.tag_index.specs.Histories.{Call, format, on, off, find, list, check, load, Reply, answered, sliced, said, OrderedMap, sizesOf, Feed, nothingFed, onFed, loadFed, formats as fits, emptyMap, mapBehind}
 use Rattle.tag_index.proofs.c.tag_index_format.Reads as format-reads
 use Rattle.tag_index.proofs.c.tag_index_on.Reads as on-reads
 use Rattle.tag_index.proofs.c.tag_index_off.Reads as off-reads
 use Rattle.tag_index.proofs.c.tag_index_find.Reads as find-reads
 use Rattle.tag_index.proofs.c.tag_index_list.Reads as list-reads
 use Rattle.tag_index.proofs.c.tag_index_check.Reads as check-reads
+use Rattle.tag_index.proofs.LoadReads as load-reads
 
 -- Three slices that are lent, and hold the tables.
 pub record Lent (t : Tables) : Type 0 where
@@ -66,21 +70,42 @@ pub record Checks (t : Tables) (r : Bool) : Type 0 where
   pub lent : Lent t
   pub post : check-reads.Post κs (lent .index, (lent .keys, (lent .used, tt))) r (lent .index, (lent .keys, (lent .used, tt)))
 
+pub record Loads (xs : List Movement) (answers answers₁ : List ℕ) (t u : Tables) (a : Answer) : Type 0 where
+  pub κs : Lfts 5
+  pub before : Lent t
+  pub after : Lent u
+  pub movements : RefT (List Movement)
+  pub movements-is : movements .now ≡ xs
+  pub slice : RefT (List ℕ)
+  pub slice-is : slice .now ≡ answers
+  pub slice₁ : RefT (List ℕ)
+  pub slice₁-is : slice₁ .now ≡ answers₁
+  pub post : load-reads.Post κs (before .index, (before .keys, (before .used, (movements, (slice, tt))))) a (after .index, (after .keys, (after .used, (movements, (slice₁, tt)))))
+
+-- In words of the tables.
+pub loads-does : {xs : List Movement} {answers answers₁ : List ℕ} {t u : Tables} {a : Answer} → Loads xs answers answers₁ t u a → LoadDoes t xs answers u answers₁ a
+loads-does s =
+    rw (sym (s .before .index-is), sym (s .before .keys-is), sym (s .before .used-is), sym (s .after .index-is), sym (s .after .keys-is), sym (s .after .used-is), sym (s .movements-is), sym (s .slice-is), sym (s .slice₁-is))
+    (s .post)
+
 -- A run of calls from tables to tables, each call on the tables as the last one left them; with what the map is fed of each, and what each gives back.
 pub data Run : Tables → List Call → List Feed → List Reply → Tables → Type 0 where
   end : {t : Tables} → Run t [] [] [] t
   formats : {w e p : ℕ} {t u v : Tables} {a : Answer} {cs : List Call} {fs : List Feed} {rs : List Reply} → Formats w e p t u a → Run u cs fs rs v
-      → Run t (format w e p ∷ cs) (feedOf t (format w e p) ∷ fs) (answered a ∷ rs) v
+      → Run t (format w e p ∷ cs) (nothingFed ∷ fs) (answered a ∷ rs) v
   ons : {key r : ℕ} {t u v : Tables} {a : Answer} {cs : List Call} {fs : List Feed} {rs : List Reply} → Ons key r t u a → Run u cs fs rs v
-      → Run t (on key r ∷ cs) (feedOf t (on key r) ∷ fs) (answered a ∷ rs) v
+      → Run t (on key r ∷ cs) (onFed t key r ∷ fs) (answered a ∷ rs) v
   offs : {key : ℕ} {t u v : Tables} {a : Answer} {cs : List Call} {fs : List Feed} {rs : List Reply} → Offs key t u a → Run u cs fs rs v
-      → Run t (off key ∷ cs) (feedOf t (off key) ∷ fs) (answered a ∷ rs) v
+      → Run t (off key ∷ cs) (nothingFed ∷ fs) (answered a ∷ rs) v
   finds : {key : ℕ} {t v : Tables} {a : Answer} {cs : List Call} {fs : List Feed} {rs : List Reply} → Finds key t a → Run t cs fs rs v
-      → Run t (find key ∷ cs) (feedOf t (find key) ∷ fs) (answered a ∷ rs) v
+      → Run t (find key ∷ cs) (nothingFed ∷ fs) (answered a ∷ rs) v
   lists : {a b : ℕ} {out out₁ : List ℕ} {t v : Tables} {r : Answer} {cs : List Call} {fs : List Feed} {rs : List Reply} → Lists a b out out₁ t r → Run t cs fs rs v
-      → Run t (list a b out ∷ cs) (feedOf t (list a b out) ∷ fs) (sliced r out₁ ∷ rs) v
+      → Run t (list a b out ∷ cs) (nothingFed ∷ fs) (sliced r out₁ ∷ rs) v
   checks : {t v : Tables} {r : Bool} {cs : List Call} {fs : List Feed} {rs : List Reply} → Checks t r → Run t cs fs rs v
-      → Run t (check ∷ cs) (feedOf t check ∷ fs) (said r ∷ rs) v
+      → Run t (check ∷ cs) (nothingFed ∷ fs) (said r ∷ rs) v
+  loads : {xs : List Movement} {answers answers₁ : List ℕ} {t u v : Tables} {a : Answer} {cs : List Call} {fs : List Feed} {rs : List Reply}
+      → (s : Loads xs answers answers₁ t u a) → Run u cs fs rs v
+      → Run t (load xs answers ∷ cs) (loadFed t xs (loads-does s .between) ∷ fs) (sliced a answers₁ ∷ rs) v
 
 -- A history: "It starts from what a done format leaves, whatever the tables held before."
 pub record History (calls : List Call) (feeds : List Feed) (replies : List Reply) (left : Tables) : Type 0 where

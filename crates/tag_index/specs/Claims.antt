@@ -1,16 +1,20 @@
 -- What is claimed after every history (01, "After every history"). Assumes nothing.
 use mathlib.Core.Path.{_≡_}
+use mathlib.Core.Bool.{cond}
 use mathlib.Core.Logic.{_⊎_, _≢_}
 use mathlib.Core.Option.{Option, none, some}
 use mathlib.Core.List.{List, [], _∷_}
 use Prim.Native.Nat.{ℕ, _≤_, _<_}
+use lib.Dec.{eqb}
 use lib.ListN.{length, getD}
 use Rattle.leaf_list.specs.LeafList.{leafList}
 use Rattle.index_table.specs.Bytes.{AllZero}
 use Rattle.index_table.specs.Layout.{Ref, layoutOf, pageBytes, levelOf, countOf, refsOf}
-use Rattle.index_table.specs.Header.{entriesOf, pagesOf, rootOf, heldOf}
-use Rattle.index_table.specs.Soundness.{leafEntries}
-use Rattle.tag_index.specs.Histories.{Tables, Call, Reply, OrderedMap, Sizes, Feed, keyWith, mapReplies, mapBehind}
+use Rattle.index_table.specs.Header.{widthOf, entriesOf, pagesOf, rootOf, heldOf, spareOf}
+use Rattle.index_table.specs.Soundness.{treeOf, leafEntries}
+use Rattle.tag_index.specs.declared.load.Movement.{Movement}
+use Rattle.tag_index.specs.Tables.{Tables}
+use Rattle.tag_index.specs.Histories.{Call, on, off, Reply, OrderedMap, Sizes, Feed, keyWith, mapReplies, mapBehind}
 
 -- The bytes of a page, and its entries.
 abbrev pub bytesOfPage : List ℕ → ℕ → List ℕ
@@ -57,3 +61,21 @@ pub record Follows (z : Sizes) (m : OrderedMap) (calls : List Call) (feeds : Lis
   -- "each answer and each list slice is the map's"
   pub answers : replies ≡ mapReplies z m calls feeds
   pub tables : Agrees (mapBehind z m calls feeds) left
+
+-- ---- a load beside single calls (02, vii)
+
+-- The single call of a movement.
+abbrev pub callOf : Movement → Call
+callOf x = cond (eqb (x .on) 0) (off (x .key)) (on (x .key) (x .«record»))
+
+-- "answers and end state equal those of the single calls made one by one", where "what is read from the root down, page numbers aside, is the same either
+-- way" (01): the register, the header but for the root's number, and the pages from the root down but for theirs. (Every page that is not reached is all zero.)
+pub record SameAside (t u : Tables) : Type 0 where
+  pub keys : t .keys ≡ u .keys
+  pub used : t .used ≡ u .used
+  pub width : widthOf (t .index) ≡ widthOf (u .index)
+  pub entries : entriesOf (t .index) ≡ entriesOf (u .index)
+  pub pages : pagesOf (t .index) ≡ pagesOf (u .index)
+  pub held : heldOf (t .index) ≡ heldOf (u .index)
+  pub spare : spareOf (t .index) ≡ spareOf (u .index)
+  pub tree : treeOf (t .index) ≡ treeOf (u .index)

@@ -6,6 +6,9 @@ ghost use Rattle.index_table.specs.Soundness.{Sound};
 ghost use Rattle.table_format.specs.Format.{FormatDoes};
 ghost use Rattle.tag_index.specs.Changing.{OnDoes, OffDoes};
 ghost use Rattle.tag_index.specs.Reading.{FindDoes, ListDoes};
+ghost use Rattle.tag_index.specs.Tables.{tables};
+ghost use Rattle.tag_index.specs.Loads.{LoadDoes};
+use crate::load::Movement;
 use table_find::answer::Answer;
 
 #[no_mangle]
@@ -73,4 +76,26 @@ pub extern "C" fn tag_index_check(index: &[u8], keys: &[u64], used: &[u8]) -> bo
     ensures { λ r. ⌜ (r ≡ true) ↔ Sound (now (index .entry)) (now (keys .entry)) (now (used .entry)) ⌝ }
 {
     crate::read::check(index, keys, used)
+}
+
+// The one function over the slice of movements: no function that is lent such a slice is covered by the borrow checker, so its proof is a walk that tools/load-walk writes.
+#[no_mangle]
+pub extern "C" fn tag_index_load(
+    index: &mut [u8],
+    keys: &mut [u64],
+    used: &mut [u8],
+    movements: &[Movement],
+    answers: &mut [u32],
+) -> Answer
+    ensures { λ r. ⌜ LoadDoes (tables (now (index .entry)) (now (keys .entry)) (now (used .entry))) (now (movements .entry)) (now (answers .entry)) (tables (now (index .exit)) (now (keys .exit)) (now (used .exit))) (now (answers .exit)) r ⌝ }
+{
+    let row = crate::load::load_row(index, keys, used, answers, movements.len());
+    let n = crate::load::turns(row, movements.len());
+    let mut i = 0;
+    while i < n {
+        let m = movements[i];
+        crate::load::move_one(index, keys, used, m.key, m.record, m.on, answers, i);
+        i += 1;
+    }
+    Answer::plain(row)
 }

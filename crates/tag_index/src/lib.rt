@@ -1,4 +1,5 @@
 // The tag index: the calls on lent tables.
 pub mod c;
 pub mod change;
+pub mod load;
 pub mod read;
