@@ -2,12 +2,13 @@
 //! calls.
 
 use compare::met::{Met, CUTS, EMPTIED, MOVED};
-use compare::supply::{load_on, seeds, sound_tables};
+use compare::supply::{load_on, seeds, shape_of, sound_tables};
 use compare::{same, tag_index};
 use model::answer::Answer;
 use model::calls::Movement;
 use model::history::Call;
 use model::random::keys::{key, Spread};
+use model::random::loads::movements;
 use model::random::sound_tables::sound_index;
 use model::random::Random;
 use model::table::{read, Tables};
@@ -84,6 +85,20 @@ fn long_loads() {
     );
 }
 
+/// More movements than 16 bits can count.
+#[test]
+fn seventy_thousand_movements() {
+    let mut met = Met::default();
+    let mut random = Random::new(seeds(1).start);
+    let tables = formatted(12, 5, 12, 8);
+    let index = read(tables.lent());
+    let movements = movements(&mut random, shape_of(&index), &index.herd(), 70_000);
+    let (answer, _) = same::load(&tables, load(movements), &mut met, "70,000 movements");
+    assert_eq!(answer, Answer::done());
+    met.assert(1_000, &["moved on 0", "moved off 0"]);
+    met.assert(50, &["moved on 7", "moved on after a 7"]);
+}
+
 /// Each width, from tables that hold nothing.
 #[test]
 fn every_width() {
@@ -140,12 +155,8 @@ fn every_bit_of_on() {
         on: value,
         ..on(7, 2)
     };
-    let [off, bits] = [movement(0), movement(1)].map(|movement| [movement; 2]);
-    assert_eq!(numbers(&tables, &[off, bits].concat()), [6, 6, 0, 4]);
-    for value in (1..32)
-        .map(|bit| 1 << bit)
-        .chain([3, u32::MAX - 1, u32::MAX])
-    {
+    let bits = (0..32).map(|bit| 1 << bit);
+    for value in bits.chain([3, u32::MAX - 1, u32::MAX]) {
         let movements = [movement(value), movement(value), movement(0)];
         assert_eq!(numbers(&tables, &movements), [0, 4, 0], "on {value}");
     }

@@ -47,44 +47,41 @@ impl Yard {
         let mut movements: Vec<Movement> = Vec::new();
         for _ in 0..count {
             self.turn(random);
-            movements.push(match movements.last() {
-                Some(last) if random.percent(15) => self.undoing(random, last),
+            let movement = match movements.last() {
+                Some(last) if random.percent(15) => self.undoing(last, random),
                 Some(_) if random.percent(8) => *random.pick(&movements),
-                _ if self.is_on(random) => {
-                    let key = self.some_key(random);
-                    self.on(random, key)
-                }
-                _ => {
-                    let key = self.held_key(random);
-                    self.off(random, key)
-                }
-            });
+                _ if self.is_on(random) => self.on(self.some_key(random), random),
+                _ => self.off(self.held_key(random), random),
+            };
+            match movement.on {
+                0 => drop(self.held.remove(&movement.key)),
+                _ => self.put_on(movement.key, movement.record.into()),
+            }
+            movements.push(movement);
         }
         movements
     }
 
     /// The movement that undoes this one, an on of the key on any record.
-    fn undoing(&mut self, random: &mut Random, made: &Movement) -> Movement {
+    fn undoing(&self, made: &Movement, random: &mut Random) -> Movement {
         match made.on {
-            0 => self.on(random, made.key),
-            _ => self.off(random, made.key),
+            0 => self.on(made.key, random),
+            _ => self.off(made.key, random),
         }
     }
 
-    fn on(&mut self, random: &mut Random, key: u64) -> Movement {
+    fn on(&self, key: u64, random: &mut Random) -> Movement {
         let mut record = self.some_record(random) as u32;
         if random.percent(3) {
             // One that is in the register if it is cut to 16 bits.
             record |= 1 << random.between(16, 31);
         }
-        self.put_on(key, record.into());
         let any = 1 + random.below(u32::MAX as usize) as u32;
         let on = *random.pick(&[1, 1, 1, 2, 256, 1 << 31, u32::MAX, any]);
         Movement { key, record, on }
     }
 
-    fn off(&mut self, random: &mut Random, key: u64) -> Movement {
-        self.held.remove(&key);
+    fn off(&self, key: u64, random: &mut Random) -> Movement {
         let record = match random.percent(50) {
             true => self.some_record(random) as u32,
             false => random.number() as u32,
