@@ -1,4 +1,4 @@
-/* A small market day: animals come, are looked up, and leave. */
+/* A small market day: animals come, are looked up, and leave, and a lorry is unloaded. */
 #include <stdio.h>
 #include "tag_code.h"
 #include "tag_index.h"
@@ -12,6 +12,24 @@ static uint8_t used[RECORDS];
 
 static uint64_t tag(uint64_t country, uint64_t national) {
     return tag_code_pack(1, 0, 0, 0, 0, country, national).code;
+}
+
+/* Makes the movements of a lorry in one call, and prints the number of each. */
+static void unload(void) {
+    struct tag_index_movement lorry[] = {
+        {.key = tag(826, 20), .record = 7, .on = 1},
+        {.key = tag(826, 21), .record = 2, .on = 1}, /* refused: 16 has this record */
+        {.key = tag(826, 16), .on = 0},
+        {.key = tag(826, 22), .record = 2, .on = 1},
+    };
+    enum { HEAD = sizeof lorry / sizeof lorry[0] };
+    uint32_t answers[HEAD];
+
+    printf("load: %u\n", tag_index_load(TABLES, lorry, HEAD, answers, HEAD).number);
+    for (size_t i = 0; i < HEAD; i++) {
+        unsigned national = (unsigned)tag_code_unpack(lorry[i].key).national;
+        printf("  %s %u: %u\n", lorry[i].on ? "on" : "off", national, answers[i]);
+    }
 }
 
 int main(void) {
@@ -33,6 +51,7 @@ int main(void) {
 
     printf("off 17: %u\n", tag_index_off(TABLES, tag(826, 17)).number);
     printf("find 17: %u\n", tag_index_find(TABLES, tag(826, 17)).number);
+    unload();
     printf("sound: %s\n", tag_index_check(TABLES) ? "yes" : "no");
     return 0;
 }

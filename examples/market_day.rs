@@ -1,9 +1,29 @@
-//! A small market day: animals come, are looked up, and leave.
+//! A small market day: animals come, are looked up, and leave, and a lorry is unloaded.
 
-use rulgovaz::{Refusal, TagFields, TagIndex};
+use rulgovaz::{Movement, Refusal, TagFields, TagIndex};
 
 fn tag(country: u64, national: u64) -> Result<u64, Refusal> {
     TagFields::of_animal(country, national).pack()
+}
+
+/// Makes the movements of a lorry in one call, and prints the result of each.
+fn unload(herd: &mut TagIndex) -> Result<(), Refusal> {
+    let lorry = [
+        Movement::on(tag(826, 20)?, 7),
+        Movement::on(tag(826, 21)?, 2), // declined: 16 has this record
+        Movement::off(tag(826, 16)?),
+        Movement::on(tag(826, 22)?, 2),
+    ];
+    println!("load:");
+    for (movement, result) in lorry.iter().zip(herd.load(&lorry)?) {
+        let verb = movement.record().map_or("off", |_| "on");
+        let animal = TagFields::unpack(movement.key())?.national;
+        match result {
+            Ok(()) => println!("  {verb} {animal}: done"),
+            Err(refusal) => println!("  {verb} {animal}: {}, {refusal}", refusal.number()),
+        }
+    }
+    Ok(())
 }
 
 fn main() -> Result<(), Refusal> {
@@ -24,6 +44,7 @@ fn main() -> Result<(), Refusal> {
         Ok(record) => println!("find 17: record {record}"),
         Err(refusal) => println!("find 17: {refusal}"),
     }
+    unload(&mut herd)?;
     println!("sound: {}", herd.check());
     Ok(())
 }

@@ -5,9 +5,11 @@
    each record. Every slice is a pointer and its length in elements. A pointer
    is never null, even where the length is 0; slices lent to one call do not
    overlap. The library keeps no memory of its own and no pointer: it works in
-   the tables and on the stack alone. Calls on different tables may run at the
-   same time, and so may calls of find, list and check on the same tables.
-   A thread that calls it needs the bytes of stack that are named below.
+   what it is lent and on the stack alone. Calls on different tables may run at
+   the same time, and so may calls of find, list and check on the same tables.
+   The out of a list and the answers of a load are lent to one call at a time;
+   the movements, which a load only reads, may be lent to several. A thread
+   that calls the library needs the bytes of stack that are named below.
 
    The two slices of a register have one length. If they have not, format
    answers 9, check false, and every other call 1. A key of W bits is a number
@@ -17,7 +19,8 @@
    Every call but check answers a number: 0 done, or, the first that applies,
      9  format: W is not 1 to 64, E not 2 to 255, P not 1 to 65534, the
         register not 1 to 65534 records, or a table not as long as they say;
-     1  on, off, find, list: the tables are not sound;
+     1  on, off, find, list, load: the tables are not sound;
+    12  load: there are fewer answers than movements;
      2  on, off, find, list: a key of more than W bits (either end of a list);
      3  on: the record is at or past the register's length;
      4  on: the record is in use;
@@ -26,7 +29,9 @@
      8  on: the root would stand above level 15;
      7  on: more than P pages would be in use after it.
    A refusal has record 65535, count 0 and more false, and changes no lent
-   byte. A done call leaves so what it does not set. */
+   byte. A done call leaves so what it does not set. A done load writes the
+   number of each movement into its answers: 0, or 2, 3, 4, 5, 8 or 7 of an on,
+   2 or 6 of an off, as that call would answer it there. */
 #ifndef TAG_INDEX_H
 #define TAG_INDEX_H
 
@@ -49,7 +54,8 @@ enum tag_index_number {
     TAG_INDEX_KEY_NOT_HELD = 6,
     TAG_INDEX_OUT_OF_PAGES = 7,
     TAG_INDEX_ROOT_TOO_HIGH = 8,
-    TAG_INDEX_OUTSIDE_LIMITS = 9
+    TAG_INDEX_OUTSIDE_LIMITS = 9,
+    TAG_INDEX_ANSWERS_TOO_SHORT = 12
 };
 
 /* The limits of W (bits of a key), E (entries a page may hold), P (pages),
@@ -74,8 +80,9 @@ enum tag_index_number {
 #define TAG_INDEX_BYTES(e, p) (TAG_INDEX_HEADER_BYTES + (size_t)(p) * TAG_INDEX_PAGE_BYTES(e))
 
 /* Bytes of stack, measured on x86-64, that no call of tests/stack.c took more
-   of: format, find, list and check, which read, and on and off, which change.
-   Give a thread 512 KiB. */
+   of: format, find, list and check, which read, and on, off and load, which
+   change. A load of many movements takes no more than one of few. Give a thread
+   512 KiB. */
 #define TAG_INDEX_STACK_TO_READ 75000
 #define TAG_INDEX_STACK_TO_CHANGE 360000
 
@@ -84,6 +91,13 @@ struct tag_index_answer {
     uint32_t record; /* find: the record of the key; else 65535 */
     uint64_t count;  /* list: how many records it wrote; else 0 */
     bool more;       /* list: whether more remain; else false */
+};
+
+/* One movement of a load. */
+struct tag_index_movement {
+    uint64_t key;    /* the key that is to be held, or held no more */
+    uint32_t record; /* an on: the record of the key; an off ignores it */
+    uint32_t on;     /* 0 is an off, any other value an on */
 };
 
 /* Format: the tables hold no key, whatever they held before. Refused by 9. */
@@ -104,6 +118,18 @@ struct tag_index_answer tag_index_off(uint8_t *index, size_t index_bytes,
                                       uint64_t *keys, size_t keys_length,
                                       uint8_t *used, size_t used_length,
                                       uint64_t key);
+
+/* Load: makes the movements in their order and writes the number of each at
+   its place in answers; the rest of answers is kept. A refused movement is
+   passed over, and the rest go on. Answers and tables are those of on and off
+   called one by one, but the tables are checked only once. Refused by 1, 12:
+   then no movement is made. */
+struct tag_index_answer tag_index_load(uint8_t *index, size_t index_bytes,
+                                       uint64_t *keys, size_t keys_length,
+                                       uint8_t *used, size_t used_length,
+                                       const struct tag_index_movement *movements,
+                                       size_t movements_length,
+                                       uint32_t *answers, size_t answers_length);
 
 /* Find: the record of a key. Refused by 1, 2, 6; changes no byte. */
 struct tag_index_answer tag_index_find(const uint8_t *index, size_t index_bytes,

@@ -3,7 +3,7 @@
 //! [`TagIndex`] owns the tables that the library works in: each of its methods
 //! is one call of the library. [`TagFields`] makes the 64-bit code of a tag and
 //! takes it apart. A call that is declined answers a [`Refusal`] and has changed
-//! nothing.
+//! nothing. [`TagIndex::load`] makes a whole list of [`Movement`]s in one call.
 //!
 //! ```
 //! use rulgovaz::{Refusal, TagFields, TagIndex};
@@ -22,10 +22,12 @@
 //! and turns its answers into `Result`s.
 
 mod library;
+mod movement;
 mod refusal;
 mod tag_fields;
 mod tag_index;
 
+pub use movement::Movement;
 pub use refusal::Refusal;
 pub use tag_fields::TagFields;
 pub use tag_index::{Listed, Tables, TagIndex};

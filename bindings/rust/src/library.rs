@@ -13,7 +13,7 @@
 //!   the borrows allow.
 #![allow(unsafe_code)]
 
-use crate::TagFields;
+use crate::{Movement, TagFields};
 
 /// The answer of a call on tables.
 #[repr(C)]
@@ -78,6 +78,18 @@ extern "C" {
         used: *mut u8,
         used_length: usize,
         key: u64,
+    ) -> Answer;
+    fn tag_index_load(
+        index: *mut u8,
+        index_bytes: usize,
+        keys: *mut u64,
+        keys_length: usize,
+        used: *mut u8,
+        used_length: usize,
+        movements: *const Movement,
+        movements_length: usize,
+        answers: *mut u32,
+        answers_length: usize,
     ) -> Answer;
     fn tag_index_find(
         index: *const u8,
@@ -192,6 +204,26 @@ pub(crate) fn off(tables: LentMut<'_>, key: u64) -> Answer {
             used.as_mut_ptr(),
             used.len(),
             key,
+        )
+    }
+}
+
+pub(crate) fn load(tables: LentMut<'_>, movements: &[Movement], answers: &mut [u32]) -> Answer {
+    let LentMut { index, keys, used } = tables;
+    // SAFETY: four exclusive slices and one that load only reads, which therefore
+    // overlaps none of them, each with its own length; not kept.
+    unsafe {
+        tag_index_load(
+            index.as_mut_ptr(),
+            index.len(),
+            keys.as_mut_ptr(),
+            keys.len(),
+            used.as_mut_ptr(),
+            used.len(),
+            movements.as_ptr(),
+            movements.len(),
+            answers.as_mut_ptr(),
+            answers.len(),
         )
     }
 }

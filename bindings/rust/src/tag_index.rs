@@ -1,9 +1,9 @@
 //! The index with the tables that it works in.
 
 use crate::library::{self, Lent, LentMut};
-use crate::Refusal;
+use crate::{Movement, Refusal};
 
-/// The tables of an index, of any content: to save them, and to load them again.
+/// The tables of an index, of any content: to save them, and to bring them back.
 #[derive(Clone, Debug, Default, PartialEq, Eq)]
 pub struct Tables {
     /// The index table: a header of 16 bytes, then the pages.
@@ -27,7 +27,8 @@ pub struct Listed {
 ///
 /// [`on`](TagIndex::on), [`off`](TagIndex::off), [`find`](TagIndex::find) and
 /// [`list`](TagIndex::list) check the whole tables first, so none of them trusts
-/// what was loaded.
+/// what was brought back; [`load`](TagIndex::load) does so once for all of its
+/// movements.
 ///
 /// ```
 /// use rulgovaz::{Refusal, TagIndex};
@@ -162,6 +163,35 @@ impl TagIndex {
     pub fn off(&mut self, key: u64) -> Result<(), Refusal> {
         let answer = library::off(self.lent_mut(), key);
         Refusal::done(answer.number)
+    }
+
+    /// Makes the movements in their order, and gives the result of each as
+    /// [`on`](TagIndex::on) or [`off`](TagIndex::off) would give it in its place. A
+    /// movement that is declined is passed over, and the rest go on. The tables are
+    /// those that the single calls leave, but they are checked only once.
+    ///
+    /// Declined by [`Refusal::NotSound`]; then no movement is made.
+    ///
+    /// ```
+    /// use rulgovaz::{Movement, Refusal, TagIndex};
+    ///
+    /// let mut index = TagIndex::new(64, 60, 250, 4096)?;
+    /// index.on(17, 5)?;
+    /// let results = index.load(&[
+    ///     Movement::on(18, 5), // the record is in use
+    ///     Movement::off(17),
+    ///     Movement::on(19, 5), // and here it is free
+    /// ])?;
+    /// assert_eq!(results, [Err(Refusal::RecordInUse), Ok(()), Ok(())]);
+    /// assert_eq!(index.find(19), Ok(5));
+    /// # Ok::<(), Refusal>(())
+    /// ```
+    pub fn load(&mut self, movements: &[Movement]) -> Result<Vec<Result<(), Refusal>>, Refusal> {
+        // As many answers as movements, so row 12 is never met.
+        let mut answers = vec![0; movements.len()];
+        let answer = library::load(self.lent_mut(), movements, &mut answers);
+        Refusal::done(answer.number)?;
+        Ok(answers.into_iter().map(Refusal::done).collect())
     }
 
     /// The record of a key.

@@ -7,7 +7,7 @@ use mathlib.Core.List.{List, [], _∷_}
 use Prim.Native.Nat.{ℕ, zero, suc, _^_, _<_}
 use native.Mathlib.Omega.{arith}
 use lib.Dec.{leb, ltb, eqb}
-use lib.ListN.{length}
+use lib.ListN.{length, take}
 use borrow.Author.Tests.{eqb-true, eqb-false, eq-eqb, ne-eqb, lt-leb}
 use Rattle.leaf_list.specs.Entries.{Entry, entry}
 use Rattle.leaf_list.specs.Herd.{Herd, Narrow, Above, Sorted, lookup}
@@ -28,11 +28,13 @@ use Rattle.table_find.specs.Answers.{plain, withRecord, found}
 use Rattle.table_list.specs.Ranges.{recordsBetween, listed}
 use Rattle.table_change.specs.Changes.{tooWide, isSome, isHeld, onRow, offRow}
 use Rattle.tag_index.specs.Reading.{firstRow, behind}
+use Rattle.tag_index.specs.declared.load.Movement.{Movement}
 use Rattle.tag_index.specs.Tables.{Tables}
-use Rattle.tag_index.specs.Histories.{Call, format, on, off, find, list, check, load, Reply, answered, sliced, said, OrderedMap, Sizes, sizesOf, Feed, formats, keyWith, mapReply, mapAfter, mapReplies, nothingFed}
+use Rattle.tag_index.specs.Histories.{Call, format, on, off, find, list, check, load, Reply, answered, sliced, said, OrderedMap, Sizes, sizesOf, Late, latesOf, Feed, formats, keyWith, mapOnRow, mapOffRow, mapMove, moveRows, mapReply, mapAfter, mapReplies, nothingFed}
 use Rattle.tag_index.specs.Claims.{entriesOfPage}
 use Rattle.tag_index.proofs.MapSteps.{Holds, finds-step, lists-step}
-use Rattle.tag_index.proofs.Runs.{Finds, Lists, History, mapOf}
+use Rattle.tag_index.proofs.LoadSteps.{moves-step}
+use Rattle.tag_index.proofs.Runs.{Finds, Lists, Loads, loads-does, History, mapOf}
 use Rattle.tag_index.proofs.Histories.{history-runs, every-history}
 
 -- ---- the herd of the map
@@ -214,6 +216,25 @@ replies-not-one z m (c ∷ cs) (f ∷ fs) = (map-not-one z f m c, replies-not-on
 -- "1 is never answered"
 pub never-one : {calls : List Call} {feeds : List Feed} {replies : List Reply} {left : Tables} → History calls feeds replies left → All NotOne replies
 never-one {calls} {feeds} h = subst (All NotOne) (sym (every-history h .answers)) (replies-not-one (sizesOf (h .given)) _ calls feeds)
+
+-- nor beside a movement of a load.
+move-not-one : (z : Sizes) (l : Late) (m : OrderedMap) (key r : ℕ) (isOff : Bool) → cond isOff (mapOffRow m key) (mapOnRow z l m key r) ≢ 1
+move-not-one z l m key r true = off-not-one (tooWide (m .width) key) (isHeld key (m .herd))
+move-not-one z l m key r false =
+    on-not-one (tooWide (m .width) key) (leb (z .used) r) (isSome (keyWith r (m .herd))) (isHeld key (m .herd)) (l .eight) (l .seven)
+
+rows-not-one : (z : Sizes) (m : OrderedMap) (xs : List Movement) (ls : List Late) → All (λ n. n ≢ 1) (moveRows z m xs ls)
+rows-not-one z m [] ls = tt
+rows-not-one z m (x ∷ xs) [] = tt
+rows-not-one z m (x ∷ xs) (l ∷ ls) = (move-not-one z l m (x .key) (x .«record») (eqb (x .on) 0), rows-not-one z (mapMove z l m x) xs ls)
+
+pub never-one-beside : {calls : List Call} {feeds : List Feed} {replies : List Reply} {left u : Tables} (h : History calls feeds replies left)
+    {xs : List Movement} {answers answers₁ : List ℕ} {a : Answer} → Loads xs answers answers₁ left u a → a .number ≡ 0
+    → All (λ n. n ≢ 1) (take (length xs) answers₁)
+never-one-beside {left = left} h {xs} s e =
+    let does = loads-does s in
+    let done = does .done (sym (ap (λ (x : Answer). x .number) (does .answer)) ∙ e) in
+    subst (All (λ n. n ≢ 1)) (sym (moves-step (holding h) (done .moved) .numbers)) (rows-not-one (sizesOf (h .given)) (mapOf h) xs (latesOf left xs (does .between)))
 
 -- ---- find
 

@@ -2,9 +2,11 @@
 use mathlib.Core.Path.{_≡_, refl}
 use mathlib.Core.Bool.{Bool, true, false}
 use mathlib.Core.List.{List, [], _∷_}
+use Prim.Native.Nat.{ℕ}
 use Rattle.table_find.specs.Answers.{plain, withRecord, withCount}
 use Rattle.table_format.specs.Format.{formatFits}
-use Rattle.tag_index.specs.Histories.{Call, format, on, off, find, list, check, Reply, answered, sliced, said, Sizes, Feed, nothingFed, emptyMap, mapReplies, mapBehind}
+use Rattle.tag_index.specs.declared.load.Movement.{Movement}
+use Rattle.tag_index.specs.Histories.{Call, format, on, off, find, list, check, load, Reply, answered, sliced, said, Sizes, Feed, noneLate, nothingFed, emptyMap, mapReplies, mapBehind}
 
 -- One page of two entries, four records.
 abbrev pub sizes : Sizes
@@ -57,7 +59,27 @@ replies =
     ∷ answered (plain 6)
     ∷ []
 
+-- What a load is fed: row 8 applies to its fourth movement.
+abbrev fedLoad : Feed
+fedLoad = record { late = noneLate; lates = noneLate ∷ noneLate ∷ noneLate ∷ record { eight = true; seven = true } ∷ noneLate ∷ noneLate ∷ [] }
+
 -- Each row's example, in order; behind the last format no key is held.
 pub map-examples : (mapReplies sizes (emptyMap 8) calls feeds ≡ replies) × (mapBehind sizes (emptyMap 8) calls feeds ≡ emptyMap 64)
 unfolding formatFits
 map-examples = (refl, refl)
+
+-- ---- a load: off 7, which is not held, and is passed over; on 7 and 9 with one record, and 9 with another, where row 8 applies and then none; off 7
+
+abbrev pub movements : List Movement
+movements = moving 7 0 0 ∷ moving 7 0 1 ∷ moving 9 0 2 ∷ moving 9 1 1 ∷ moving 9 1 1 ∷ moving 7 3 0 ∷ []
+  where
+    moving : ℕ → ℕ → ℕ → Movement
+    moving key r verb = record { key = key; «record» = r; on = verb }
+
+abbrev pub loads : List Call
+loads = load movements (1 ∷ 1 ∷ 1 ∷ 1 ∷ 1 ∷ []) ∷ load movements (1 ∷ 1 ∷ 1 ∷ 1 ∷ 1 ∷ 1 ∷ 1 ∷ []) ∷ load [] [] ∷ []
+
+-- It is refused by 12 where there are five answers for its six movements; the seventh answer is kept.
+pub load-example : mapReplies sizes (emptyMap 8) loads (fedLoad ∷ fedLoad ∷ fedLoad ∷ [])
+    ≡ sliced (plain 12) (1 ∷ 1 ∷ 1 ∷ 1 ∷ 1 ∷ []) ∷ sliced (plain 0) (6 ∷ 0 ∷ 4 ∷ 8 ∷ 0 ∷ 0 ∷ 1 ∷ []) ∷ sliced (plain 0) [] ∷ []
+load-example = refl
