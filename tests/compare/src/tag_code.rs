@@ -31,7 +31,8 @@ extern "C" {
 pub fn pack(fields: Fields) -> (u32, u64) {
     let [animal, retag, user, reserved, block, country, national] = fields.to_array();
     // SAFETY: numbers by value; the declaration is that of include/tag_code.h.
-    let answer = unsafe { tag_code_pack(animal, retag, user, reserved, block, country, national) };
+    let answer =
+        unsafe { tag_code_pack(animal, retag, user, reserved, block, country, national) };
     (answer.number, answer.code)
 }
 

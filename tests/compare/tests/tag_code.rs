@@ -18,15 +18,7 @@ fn limits_of_each_field() {
     let largest = FIELD_BITS.map(|bits| 2u64.pow(bits) - 1);
     for others in [[0; 7], [1, 7, 31, 63, 1, 999, largest[6]]] {
         for place in 0..7 {
-            for value in [
-                0,
-                1,
-                largest[place],
-                largest[place] + 1,
-                999,
-                1000,
-                u64::MAX,
-            ] {
+            for value in [0, 1, largest[place], largest[place] + 1, 999, 1000, u64::MAX] {
                 let mut fields = others;
                 fields[place] = value;
                 same_pack(Fields::from_array(fields));
