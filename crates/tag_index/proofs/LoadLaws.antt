@@ -15,7 +15,8 @@ use Rattle.table_find.specs.Answers.{plain}
 use Rattle.table_change.specs.Changes.{onRowOf, offRowOf, OnChanges, OffChanges}
 use Rattle.tag_index.specs.declared.load.Movement.{Movement}
 use Rattle.tag_index.specs.Tables.{Tables, SoundAt}
-use Rattle.tag_index.specs.Loads.{MoveDoes, OneMoved, Moved, end, move, loadRow, LoadRow, turnsOf, LoadDone, LoadDoes}
+use Rattle.tag_index.specs.Loads.{MoveDoes, Moved, end, move, LoadRow, LoadDone, LoadDoes}
+use Rattle.tag_index.specs.LoadTurns.{OneMoved, turnsOf}
 
 -- The movement that is read past the end of a list.
 abbrev pub empty : Movement

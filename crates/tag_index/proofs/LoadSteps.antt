@@ -1,19 +1,18 @@
 -- A load on tables that hold a map: it answers as the map does to its movements one by one, and leaves tables that hold the map behind them. Assumes nothing.
 use mathlib.Core.Path.{_≡_, refl, ap, ap₂, sym, _∙_, subst}
 use mathlib.Core.Bool.{Bool, true, false, cond}
-use mathlib.Core.List.{List, [], _∷_, _++_}
+use mathlib.Core.List.{List, _∷_, _++_}
 use Prim.Native.Nat.{ℕ, zero, suc}
 use lib.Dec.{eqb, eqb·suc-zero}
-use lib.ListN.{length, take, drop, take-append-drop}
+use lib.ListN.{length, drop, take-append-drop}
 use borrow.Author.Tests.{eqb-true, eqb-false}
 use Rattle.table_find.specs.declared.answer.Answer.{Answer}
 use Rattle.table_find.specs.Answers.{plain}
 use Rattle.tag_index.specs.declared.load.Movement.{Movement}
 use Rattle.tag_index.specs.Tables.{Tables, SoundAt}
-use Rattle.tag_index.specs.Reading.{keptBehind}
 use Rattle.tag_index.specs.Changing.{OnDoes, OffDoes}
 use Rattle.tag_index.specs.Loads.{MoveDoes, Moved, end, move, LoadDoes}
-use Rattle.tag_index.specs.Histories.{on, off, load, Reply, answered, sliced, said, OrderedMap, Sizes, Late, lateOf, latesOf, nothingFed, loadFed, mapOnRow, mapOffRow, mapOn, mapOff, moveRow, mapMove, moveRows, mapMoves, mapLoadRow}
+use Rattle.tag_index.specs.Histories.{load, Reply, answered, sliced, said, OrderedMap, Sizes, Late, lateOf, latesOf, nothingFed, loadFed, mapOnRow, mapOffRow, mapOn, mapOff, moveRows, mapMoves, mapLoadRow}
 use Rattle.tag_index.proofs.Changes.{on-sound, off-sound}
 use Rattle.tag_index.proofs.MapSteps.{Holds, Step, judged-sound, on-does-step, off-does-step}
 use Rattle.tag_index.proofs.Runs.{Loads, loads-does}

@@ -1,15 +1,12 @@
 -- A load beside the single calls of its movements, made one by one (02, vii). Assumes nothing.
 use mathlib.Core.Path.{_≡_, refl, ap, ap₂, sym, _∙_, subst}
-use mathlib.Core.Bool.{Bool, true, false, cond}
+use mathlib.Core.Bool.{Bool, cond}
 use mathlib.Core.Option.{some}
 use mathlib.Core.List.{List, [], _∷_, map}
 use Prim.Native.Nat.{ℕ, zero, suc, _-_}
-use native.Mathlib.Omega.{arith}
 use lib.Dec.{leb, ltb, eqb, eqb·suc-zero}
 use lib.ListN.{length, take, set}
-use contract.Lifetimes.{Lfts}
 use denote.Ref.{RefT}
-use Rattle.leaf_list.specs.Herd.{lookup}
 use Rattle.leaf_list.specs.Register.{keyAt, inUse, herdOf}
 use Rattle.page_tree.specs.Tree.{pagesOf as treePages}
 use Rattle.page_tree.specs.OnPages.{onTree}
@@ -29,7 +26,7 @@ use Rattle.tag_index.specs.Claims.{callOf, SameAside}
 use Rattle.tag_index.proofs.LoadLaws.{plain-number, by-row, move-sound, none-sound}
 use Rattle.tag_index.proofs.LoadSteps.{on-behind-check, off-behind-check}
 use Rattle.tag_index.proofs.MapSteps.{judged-sound}
-use Rattle.tag_index.proofs.Runs.{Lent, Ons, Offs, Loads, Run, end as end-run, ons, offs, ons-does, offs-does, loads-does}
+use Rattle.tag_index.proofs.Runs.{Lent, Loads, Run, end as end-run, ons, offs, ons-does, offs-does, loads-does}
 
 -- ---- movements from tables that are the same, page numbers aside
 

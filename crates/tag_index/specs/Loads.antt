@@ -5,7 +5,7 @@ use mathlib.Core.Bool.{Bool, cond}
 use mathlib.Core.List.{List, [], _∷_}
 use Prim.Native.Nat.{ℕ, zero, suc}
 use lib.Dec.{ltb}
-use lib.ListN.{length, take, drop, set}
+use lib.ListN.{length, take, drop}
 use Rattle.table_find.specs.declared.answer.Answer.{Answer}
 use Rattle.table_find.specs.Answers.{plain}
 use Rattle.table_change.specs.Changes.{OnChanges, OffChanges}
@@ -19,12 +19,6 @@ use Rattle.tag_index.specs.Tables.{Tables}
 abbrev pub MoveDoes : Tables → ℕ → ℕ → ℕ → Tables → ℕ → Type 0
 MoveDoes t key r zero u n = OffChanges (t .index) (t .keys) (t .used) key (u .index) (u .keys) (u .used) (plain n)
 MoveDoes t key r (suc on) u n = OnChanges (t .index) (t .keys) (t .used) key r (u .index) (u .keys) (u .used) (plain n)
-
--- A movement, and its number at place i of the answers.
-pub record OneMoved (t : Tables) (key r on : ℕ) (answers : List ℕ) (i : ℕ) (u : Tables) (answers₁ : List ℕ) : Type 0 where
-  pub number : ℕ
-  pub does : MoveDoes t key r on u number
-  pub stored : answers₁ ≡ set answers i number
 
 -- ---- all movements
 
@@ -45,11 +39,6 @@ loadRow sound movements answers = cond sound (cond (ltb answers movements) 12 0)
 pub record LoadRow (t : Tables) (movements answers row : ℕ) : Type 0 where
   pub judged : Judged (t .index) (t .keys) (t .used)
   pub number : row ≡ loadRow (judged .sound) movements answers
-
--- How many movements are made behind a row.
-abbrev pub turnsOf : ℕ → ℕ → ℕ
-turnsOf zero movements = movements
-turnsOf (suc row) movements = 0
 
 -- What a load leaves that no row declines; between has the tables behind each movement.
 pub record LoadDone (t : Tables) (ms : List Movement) (answers : List ℕ) (between : List Tables) (u : Tables) (answers₁ : List ℕ) : Type 0 where
