@@ -89,7 +89,7 @@ impl Comparison<'_> {
 }
 
 /// A ratio with the interval of the median.
-fn ratio(median: Median) -> String {
+pub fn ratio(median: Median) -> String {
     let Median { value, low, high } = median;
     format!("{value:.2} [{low:.2}, {high:.2}]")
 }

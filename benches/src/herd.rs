@@ -60,6 +60,11 @@ impl Herd {
     /// Sound tables where key i of the slice is on record i and `free` records
     /// more are free, with a quarter more pages than are in use.
     pub fn tables(self, keys: &[u64], free: usize) -> Tables {
+        self.tables_with(keys, free, 0)
+    }
+
+    /// The same, with at least so many free pages.
+    pub fn tables_with(self, keys: &[u64], free: usize, free_pages: usize) -> Tables {
         let mut herd: Vec<(u64, u32)> = keys.iter().copied().zip(0..).collect();
         herd.sort_unstable();
         let mut leaves = Vec::new();
@@ -69,10 +74,11 @@ impl Herd {
         root.number_new(&mut (0..));
         let mut register: Vec<Option<u64>> = keys.iter().copied().map(Some).collect();
         register.resize(keys.len() + free, None);
+        let pages = root.pages().len();
         let index = Index {
             width: WIDTH,
             most_entries: self.entries,
-            most_pages: root.pages().len() * 5 / 4 + 1,
+            most_pages: (pages * 5 / 4 + 1).max(pages + free_pages),
             root,
             register,
         };

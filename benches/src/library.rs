@@ -17,6 +17,16 @@ pub struct Answer {
     pub more: bool,
 }
 
+/// A movement of a load as it goes to C.
+#[derive(Clone, Copy)]
+#[repr(C)]
+pub struct Movement {
+    pub key: u64,
+    pub record: u32,
+    /// 0 for an off, else an on.
+    pub on: u32,
+}
+
 /// Find, list, on and off, of the names that begin so.
 macro_rules! calls {
     ($names:literal) => {
@@ -184,6 +194,18 @@ extern "C" {
         used: *const u8,
         used_length: usize,
     ) -> bool;
+    fn tag_index_load(
+        index: *mut u8,
+        index_bytes: usize,
+        keys: *mut u64,
+        keys_length: usize,
+        used: *mut u8,
+        used_length: usize,
+        movements: *const Movement,
+        movements_length: usize,
+        answers: *mut u32,
+        answers_length: usize,
+    ) -> Answer;
 }
 
 /// Format, with W, E and P.
@@ -218,6 +240,27 @@ pub fn check(tables: &Tables) -> bool {
             keys.len(),
             used.as_ptr(),
             used.len(),
+        )
+    }
+}
+
+/// Load.
+pub fn load(tables: &mut Tables, movements: &[Movement], answers: &mut [u32]) -> Answer {
+    let Tables { index, keys, used } = tables;
+    // SAFETY: slices with their own lengths, which do not overlap; the
+    // declarations of the call and of a movement are those of the library.
+    unsafe {
+        tag_index_load(
+            index.as_mut_ptr(),
+            index.len(),
+            keys.as_mut_ptr(),
+            keys.len(),
+            used.as_mut_ptr(),
+            used.len(),
+            movements.as_ptr(),
+            movements.len(),
+            answers.as_mut_ptr(),
+            answers.len(),
         )
     }
 }

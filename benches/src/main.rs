@@ -1,8 +1,9 @@
-//! Prints how long the six calls take on two kinds of herds, beside a memcmp or
-//! memset of the same bytes and `BTreeMap`'s get, range, insert and remove. The
-//! arguments, if given, are the seconds for reading each herd, and as many for
-//! changing it, and E. If an earlier library is linked too, prints how long find,
-//! list, on and off of both take instead.
+//! Prints how long the calls take on two kinds of herds, beside a memcmp or memset
+//! of the same bytes and `BTreeMap`'s get, range, insert and remove; then how long a
+//! load of forty takes, beside forty calls. The arguments, if given, are the seconds
+//! for reading each herd, and as many for changing it, and for loads, and E. If an
+//! earlier library is linked too, prints how long find, list, on and off of both
+//! take in place of the first.
 
 mod aligned;
 mod both;
@@ -11,6 +12,8 @@ mod comparison;
 mod empty;
 mod herd;
 mod library;
+mod load;
+mod lorry;
 mod measure;
 mod report;
 mod rounds;
@@ -24,6 +27,9 @@ use std::ops::RangeInclusive;
 use std::time::Duration;
 
 const RECORDS: [usize; 4] = [100, 1_000, 4_096, 60_000];
+
+/// Those of the herds to which lorries come: forty are few beside them.
+const LOADED: [usize; 3] = [1_000, 4_096, 60_000];
 
 /// Seconds, if none are given.
 const SECONDS: u64 = 3;
@@ -55,5 +61,9 @@ fn main() {
         } else {
             Report::new(tags, entries, &RECORDS, each).print();
         }
+    }
+    load::print_method();
+    for tags in [Tags::Scattered, Tags::Lots] {
+        load::print(tags, entries, &LOADED, each);
     }
 }

@@ -98,7 +98,7 @@ fn each(total: usize, herd: &Measures) -> String {
 }
 
 /// Nanoseconds as microseconds.
-fn micros(median: Median) -> String {
+pub fn micros(median: Median) -> String {
     format!("{:.3}", median.value / 1e3)
 }
 
