@@ -6,7 +6,8 @@
    is never null, even where the length is 0; slices lent to one call do not
    overlap. The library keeps no memory of its own and no pointer: it works in
    what it is lent and on the stack alone. Calls on different tables may run at
-   the same time, and so may calls of find, list and check on the same tables.
+   the same time, and so may calls of find, list and check on the same tables;
+   a call of format, on, off or load needs its tables to itself.
    The out of a list and the answers of a load are lent to one call at a time;
    the movements, which a load only reads, may be lent to several. A thread
    that calls the library needs the bytes of stack that are named below.
@@ -29,9 +30,9 @@
      8  on: the root would stand above level 15;
      7  on: more than P pages would be in use after it.
    A refusal has record 65535, count 0 and more false, and changes no lent
-   byte. A done call leaves so what it does not set. A done load writes the
-   number of each movement into its answers: 0, or 2, 3, 4, 5, 8 or 7 of an on,
-   2 or 6 of an off, as that call would answer it there. */
+   byte. In the answer of a done call, what it does not set is the same. A done
+   load writes the number of each movement into its answers: 0, or 2, 3, 4, 5, 8
+   or 7 of an on, 2 or 6 of an off, as that call would answer it there. */
 #ifndef TAG_INDEX_H
 #define TAG_INDEX_H
 
@@ -97,7 +98,7 @@ struct tag_index_answer {
 struct tag_index_movement {
     uint64_t key;    /* the key that is to be held, or held no more */
     uint32_t record; /* an on: the record of the key; an off ignores it */
-    uint32_t on;     /* 0 is an off, any other value an on */
+    uint32_t on;     /* 0, as where it is not set, is an off, any other an on */
 };
 
 /* Format: the tables hold no key, whatever they held before. Refused by 9. */
@@ -122,8 +123,10 @@ struct tag_index_answer tag_index_off(uint8_t *index, size_t index_bytes,
 /* Load: makes the movements in their order and writes the number of each at
    its place in answers; the rest of answers is kept. A refused movement is
    passed over, and the rest go on. Answers and tables are those of on and off
-   called one by one, but the tables are checked only once. Refused by 1, 12:
-   then no movement is made. */
+   called one by one, but the tables are checked only once. There may be any
+   number of movements, none too. A load is not all or nothing, and it answers 0
+   even if every movement is refused: read the answers. Refused by 1, 12: then
+   no movement is made, and answers is kept. */
 struct tag_index_answer tag_index_load(uint8_t *index, size_t index_bytes,
                                        uint64_t *keys, size_t keys_length,
                                        uint8_t *used, size_t used_length,

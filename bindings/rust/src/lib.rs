@@ -3,7 +3,8 @@
 //! [`TagIndex`] owns the tables that the library works in: each of its methods
 //! is one call of the library. [`TagFields`] makes the 64-bit code of a tag and
 //! takes it apart. A call that is declined answers a [`Refusal`] and has changed
-//! nothing. [`TagIndex::load`] makes a whole list of [`Movement`]s in one call.
+//! nothing. [`TagIndex::load`] carries out a whole list of [`Movement`]s in one
+//! call.
 //!
 //! ```
 //! use rulgovaz::{Refusal, TagFields, TagIndex};

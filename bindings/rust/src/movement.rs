@@ -1,7 +1,7 @@
 //! The movements of a load.
 
 /// One movement of a load: a key that comes on a record, or one that goes.
-/// [`TagIndex::load`](crate::TagIndex::load) makes them.
+/// [`TagIndex::load`](crate::TagIndex::load) carries them out.
 ///
 /// ```
 /// use rulgovaz::Movement;

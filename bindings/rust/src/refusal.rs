@@ -3,7 +3,7 @@
 use std::error::Error;
 use std::fmt;
 
-/// Why a call was declined. A declined call has changed nothing.
+/// Why a call, or a movement of a load, was declined. It has changed nothing.
 ///
 /// Where more than one reason applies, a call answers the first in the order 9,
 /// 11, 1, 2, 3, 4, 5, 6, 8, 7.

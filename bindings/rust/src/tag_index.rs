@@ -28,7 +28,7 @@ pub struct Listed {
 /// [`on`](TagIndex::on), [`off`](TagIndex::off), [`find`](TagIndex::find) and
 /// [`list`](TagIndex::list) check the whole tables first, so none of them trusts
 /// what was brought back; [`load`](TagIndex::load) does so once for all of its
-/// movements.
+/// movements. A thread that calls these methods needs 512 KiB of stack.
 ///
 /// ```
 /// use rulgovaz::{Refusal, TagIndex};
@@ -165,10 +165,13 @@ impl TagIndex {
         Refusal::done(answer.number)
     }
 
-    /// Makes the movements in their order, and gives the result of each as
+    /// Carries out the movements in their order, and gives the result of each as
     /// [`on`](TagIndex::on) or [`off`](TagIndex::off) would give it in its place. A
     /// movement that is declined is passed over, and the rest go on. The tables are
     /// those that the single calls leave, but they are checked only once.
+    ///
+    /// `Ok` says only that the tables were sound. Look at each result: a load is
+    /// not all or nothing, and `index.load(..)?;` alone drops them without a warning.
     ///
     /// Declined by [`Refusal::NotSound`]; then no movement is made.
     ///

@@ -244,7 +244,7 @@ fn threads() {
     });
 }
 
-/// 256 KiB of stack are enough, under a root at level 15 too.
+/// This day runs in 256 KiB of stack, under a root at level 15 too.
 #[test]
 fn small_stack() {
     let day = || {

@@ -1,4 +1,4 @@
--- The ordered map on 01's small examples of the rows (W 8, 4 records). Assumes nothing.
+-- The ordered map on 01's small examples of the rows (W 8, 4 records), and on a load. Assumes nothing.
 use mathlib.Core.Path.{_≡_, refl}
 use mathlib.Core.Bool.{Bool, true, false}
 use mathlib.Core.List.{List, [], _∷_}

@@ -22,7 +22,7 @@ use Rattle.tag_index.specs.Tables.{Tables, SoundAt}
 use Rattle.tag_index.specs.Changing.{OnDoes, OffDoes}
 use Rattle.tag_index.specs.Loads.{MoveDoes, Moved, end, move}
 use Rattle.tag_index.specs.Histories.{Call, on, off, Reply, answered, Feed, nothingFed, onFed}
-use Rattle.tag_index.specs.Claims.{callOf, SameAside}
+use Rattle.tag_index.specs.Claims.{callOf, singly, fedSingly, SameAside, AsCalls}
 use Rattle.tag_index.proofs.LoadLaws.{plain-number, by-row, move-sound, none-sound}
 use Rattle.tag_index.proofs.LoadSteps.{on-behind-check, off-behind-check}
 use Rattle.tag_index.proofs.MapSteps.{judged-sound}
@@ -154,15 +154,6 @@ single-first {t} {v} {cs} {fs} {rs} s key r (suc o) run = go (subst (λ (b : Boo
           rest = run;
         }
 
--- The answers of single calls that answer these numbers.
-abbrev pub singly : List ℕ → List Reply
-singly ns = map (λ (n : ℕ). answered (plain n)) ns
-
--- "answers and end state equal those of the single calls made one by one"
-pub record AsCalls (ns : List ℕ) (rs : List Reply) (u v : Tables) : Type 0 where
-  pub answers : rs ≡ singly ns
-  pub left : SameAside u v
-
 moves-as-calls : {t t₁ u v : Tables} {xs : List Movement} {us : List Tables} {ns : List ℕ} {fs : List Feed} {rs : List Reply} → SameAside t u → SoundAt u → Moved t xs us ns t₁
     → Run u (map callOf xs) fs rs v
     → AsCalls ns rs t₁ v
@@ -181,12 +172,6 @@ slice l = record { ptr = (0, 0); name = 0; now = l }
 
 abbrev lent : (t : Tables) → Lent t
 lent t = record { index = slice (t .index); keys = slice (t .keys); used = slice (t .used); index-is = refl; keys-is = refl; used-is = refl }
-
--- What the map is fed of the single call of a movement.
-abbrev pub fedSingly : Tables → List Movement → List Tables → List Feed
-fedSingly t [] us = []
-fedSingly t (x ∷ xs) [] = []
-fedSingly t (x ∷ xs) (u ∷ us) = cond (eqb (x .on) 0) nothingFed (onFed t (x .key) (x .«record»)) ∷ fedSingly u xs us
 
 single : {t u v : Tables} {n : ℕ} {cs : List Call} {fs : List Feed} {rs : List Reply} → SoundAt t → (key r o : ℕ) → MoveDoes t key r o u n → Run u cs fs rs v
     → Run t (cond (eqb o 0) (off key) (on key r) ∷ cs) (cond (eqb o 0) nothingFed (onFed t key r) ∷ fs) (answered (plain n) ∷ rs) v

@@ -3,7 +3,7 @@ use mathlib.Core.Path.{_≡_}
 use mathlib.Core.Bool.{cond}
 use mathlib.Core.Logic.{_⊎_, _≢_}
 use mathlib.Core.Option.{Option, none, some}
-use mathlib.Core.List.{List, [], _∷_}
+use mathlib.Core.List.{List, [], _∷_, map}
 use Prim.Native.Nat.{ℕ, _≤_, _<_}
 use lib.Dec.{eqb}
 use lib.ListN.{length, getD}
@@ -12,9 +12,10 @@ use Rattle.index_table.specs.Bytes.{AllZero}
 use Rattle.index_table.specs.Layout.{Ref, layoutOf, pageBytes, levelOf, countOf, refsOf}
 use Rattle.index_table.specs.Header.{widthOf, entriesOf, pagesOf, rootOf, heldOf, spareOf}
 use Rattle.index_table.specs.Soundness.{treeOf, leafEntries}
+use Rattle.table_find.specs.Answers.{plain}
 use Rattle.tag_index.specs.declared.load.Movement.{Movement}
 use Rattle.tag_index.specs.Tables.{Tables}
-use Rattle.tag_index.specs.Histories.{Call, on, off, Reply, OrderedMap, Sizes, Feed, keyWith, mapReplies, mapBehind}
+use Rattle.tag_index.specs.Histories.{Call, on, off, Reply, answered, OrderedMap, Sizes, Feed, nothingFed, onFed, keyWith, mapReplies, mapBehind}
 
 -- The bytes of a page, and its entries.
 abbrev pub bytesOfPage : List ℕ → ℕ → List ℕ
@@ -68,6 +69,16 @@ pub record Follows (z : Sizes) (m : OrderedMap) (calls : List Call) (feeds : Lis
 abbrev pub callOf : Movement → Call
 callOf x = cond (eqb (x .on) 0) (off (x .key)) (on (x .key) (x .«record»))
 
+-- The replies of single calls that answer these numbers.
+abbrev pub singly : List ℕ → List Reply
+singly ns = map (λ (n : ℕ). answered (plain n)) ns
+
+-- What the map is fed of the single calls, each on the tables that its movement gets; between has the tables that each movement left.
+abbrev pub fedSingly : Tables → List Movement → List Tables → List Feed
+fedSingly t [] between = []
+fedSingly t (x ∷ xs) [] = []
+fedSingly t (x ∷ xs) (u ∷ between) = cond (eqb (x .on) 0) nothingFed (onFed t (x .key) (x .«record»)) ∷ fedSingly u xs between
+
 -- "answers and end state equal those of the single calls made one by one", where "what is read from the root down, page numbers aside, is the same either
 -- way" (01): the register, the header but for the root's number, and the pages from the root down but for theirs. (Every page that is not reached is all zero.)
 pub record SameAside (t u : Tables) : Type 0 where
@@ -79,3 +90,8 @@ pub record SameAside (t u : Tables) : Type 0 where
   pub held : heldOf (t .index) ≡ heldOf (u .index)
   pub spare : spareOf (t .index) ≡ spareOf (u .index)
   pub tree : treeOf (t .index) ≡ treeOf (u .index)
+
+-- The movements of a load answered these numbers and left the tables u; their single calls gave these replies and left v.
+pub record AsCalls (numbers : List ℕ) (replies : List Reply) (u v : Tables) : Type 0 where
+  pub answers : replies ≡ singly numbers
+  pub left : SameAside u v

@@ -15,7 +15,7 @@ use Rattle.tag_index.specs.Tables.{Tables}
 
 -- ---- one movement
 
--- "Split on and off into the check and the change itself": what a movement does behind the check, off where on is 0 and else on. n is the number that it answers.
+-- "Split on and off into the check and the change itself": what a movement does behind the check, off where on is 0 and else on. Its answer's number is n.
 abbrev pub MoveDoes : Tables → ℕ → ℕ → ℕ → Tables → ℕ → Type 0
 MoveDoes t key r zero u n = OffChanges (t .index) (t .keys) (t .used) key (u .index) (u .keys) (u .used) (plain n)
 MoveDoes t key r (suc on) u n = OnChanges (t .index) (t .keys) (t .used) key r (u .index) (u .keys) (u .used) (plain n)
@@ -23,7 +23,7 @@ MoveDoes t key r (suc on) u n = OnChanges (t .index) (t .keys) (t .used) key r (
 -- ---- all movements
 
 -- "works through the list of movements the yard hands over, writing one answer beside each. A refused movement is passed over and the rest go on": each
--- movement on the tables that the one before it left, and the tables behind each.
+-- movement on the tables that the one before it left, with the tables that each left.
 pub data Moved : Tables → List Movement → List Tables → List ℕ → Tables → Type 0 where
   end : {t : Tables} → Moved t [] [] [] t
   move : {t u v : Tables} {m : Movement} {n : ℕ} {ms : List Movement} {between : List Tables} {ns : List ℕ}
@@ -40,13 +40,14 @@ pub record LoadRow (t : Tables) (movements answers row : ℕ) : Type 0 where
   pub judged : Judged (t .index) (t .keys) (t .used)
   pub number : row ≡ loadRow (judged .sound) movements answers
 
--- What a load leaves that no row declines; between has the tables behind each movement.
+-- What a load leaves that no row declines; between has the tables that each movement left.
 pub record LoadDone (t : Tables) (ms : List Movement) (answers : List ℕ) (between : List Tables) (u : Tables) (answers₁ : List ℕ) : Type 0 where
   pub moved : Moved t ms between (take (length ms) answers₁) u
   -- "Answer entries beyond the last movement are kept."
   pub kept : drop (length ms) answers₁ ≡ drop (length ms) answers
 
--- Rows 1 and 12. "A refusal .. changes no lent byte." The tables behind the movements are free as an on leaves the numbers of its new pages free.
+-- Rows 1 and 12. "A refusal .. changes no lent byte." The tables in between are open only in the numbers of new pages, as an on leaves them; of a refused
+-- load they say nothing.
 pub record LoadDoes (t : Tables) (ms : List Movement) (answers : List ℕ) (u : Tables) (answers₁ : List ℕ) (a : Answer) : Type 0 where
   pub row : ℕ
   pub declines : LoadRow t (length ms) (length answers) row

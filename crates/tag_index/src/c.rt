@@ -78,7 +78,7 @@ pub extern "C" fn tag_index_check(index: &[u8], keys: &[u64], used: &[u8]) -> bo
     crate::read::check(index, keys, used)
 }
 
-// The one function over the slice of movements: no function that is lent such a slice is covered by the borrow checker, so its proof is a walk that tools/load-walk writes.
+// Works through a load. No function that is lent a slice of structs is covered by the borrow checker, so this is the only one, and tools/load-walk writes its proof.
 #[no_mangle]
 pub extern "C" fn tag_index_load(
     index: &mut [u8],
