@@ -62,7 +62,7 @@ move-sound {t} {u} key r zero n d s =
 move-sound {t} {u} key r (suc on) n d s =
     by-row (onRowOf (t .index) (t .keys) (t .used) key r) (λ e. d .done e .sound) (λ e. sound-same {t = t} {u = u} (d .refused e) s)
 
--- A movement behind others.
+-- A movement is made behind others.
 pub move-behind : {t u v : Tables} {xs : List Movement} {us : List Tables} {ns : List ℕ} (x : Movement) (n : ℕ) → Moved t xs us ns u → MoveDoes u (x .key) (x .«record») (x .on) v n
     → Moved t (xs ++ x ∷ []) (us ++ v ∷ []) (ns ++ n ∷ []) v
 move-behind x n end d = move d end
@@ -106,7 +106,7 @@ module _ (t : Tables) (xs : List Movement) (answers : List ℕ) (row : ℕ) (dec
   abbrev pub turns : ℕ
   turns = turnsOf row (length xs)
 
-  -- After i movements.
+  -- What is true after i movements.
   pub record Done (i : ℕ) (u : Tables) (now : List ℕ) : Type 0 where
     pub between : List Tables
     pub moved : Moved t (take i xs) between (take i now) u
@@ -143,7 +143,7 @@ module _ (t : Tables) (xs : List Movement) (answers : List ℕ) (row : ℕ) (dec
       one-less : (l : List ℕ) → drop (suc i) l ≡ drop 1 (drop i l)
       one-less l = ap (λ (k : ℕ). drop k l) (let k : suc i ≡ i + 1 = omega arith in k) ∙ sym (drop-drop 1 i l)
 
-  -- At the end.
+  -- At the end it is what the contract says.
   refused-at : (r : ℕ) {u : Tables} {now : List ℕ} → r ≢ 0 → Done (turnsOf r (length xs)) u now → (u ≡ t) × (now ≡ answers)
   refused-at zero n d = absurd (n refl)
   refused-at (suc r) n d = (unmoved (d .moved), d .kept)

@@ -59,10 +59,6 @@ replies =
     ∷ answered (plain 6)
     ∷ []
 
--- What a load is fed: row 8 applies to its fourth movement.
-abbrev fedLoad : Feed
-fedLoad = record { late = noneLate; lates = noneLate ∷ noneLate ∷ noneLate ∷ record { eight = true; seven = true } ∷ noneLate ∷ noneLate ∷ [] }
-
 -- Each row's example, in order; behind the last format no key is held.
 pub map-examples : (mapReplies sizes (emptyMap 8) calls feeds ≡ replies) × (mapBehind sizes (emptyMap 8) calls feeds ≡ emptyMap 64)
 unfolding formatFits
@@ -76,10 +72,19 @@ movements = moving 7 0 0 ∷ moving 7 0 1 ∷ moving 9 0 2 ∷ moving 9 1 1 ∷ 
     moving : ℕ → ℕ → ℕ → Movement
     moving key r verb = record { key = key; «record» = r; on = verb }
 
+-- What a load is fed: rows 8 and 7 apply to its fourth movement.
+abbrev fedLoad : Feed
+fedLoad = record { late = noneLate; lates = noneLate ∷ noneLate ∷ noneLate ∷ record { eight = true; seven = true } ∷ noneLate ∷ noneLate ∷ [] }
+
+abbrev fedLoads : List Feed
+fedLoads = fedLoad ∷ fedLoad ∷ fedLoad ∷ []
+
 abbrev pub loads : List Call
 loads = load movements (1 ∷ 1 ∷ 1 ∷ 1 ∷ 1 ∷ []) ∷ load movements (1 ∷ 1 ∷ 1 ∷ 1 ∷ 1 ∷ 1 ∷ 1 ∷ []) ∷ load [] [] ∷ []
 
--- It is refused by 12 where there are five answers for its six movements; the seventh answer is kept.
-pub load-example : mapReplies sizes (emptyMap 8) loads (fedLoad ∷ fedLoad ∷ fedLoad ∷ [])
-    ≡ sliced (plain 12) (1 ∷ 1 ∷ 1 ∷ 1 ∷ 1 ∷ []) ∷ sliced (plain 0) (6 ∷ 0 ∷ 4 ∷ 8 ∷ 0 ∷ 0 ∷ 1 ∷ []) ∷ sliced (plain 0) [] ∷ []
-load-example = refl
+abbrev pub loadReplies : List Reply
+loadReplies = sliced (plain 12) (1 ∷ 1 ∷ 1 ∷ 1 ∷ 1 ∷ []) ∷ sliced (plain 0) (6 ∷ 0 ∷ 4 ∷ 8 ∷ 0 ∷ 0 ∷ 1 ∷ []) ∷ sliced (plain 0) [] ∷ []
+
+-- It is refused by 12 where there are five answers for its six movements; the seventh answer is kept. Behind it 9 is held with record 1.
+pub load-example : (mapReplies sizes (emptyMap 8) loads fedLoads ≡ loadReplies) × (mapBehind sizes (emptyMap 8) loads fedLoads ≡ record { width = 8; herd = (9, 1) ∷ [] })
+load-example = (refl, refl)

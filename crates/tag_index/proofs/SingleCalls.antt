@@ -1,6 +1,7 @@
 -- A load beside the single calls of its movements, made one by one (02, vii). Assumes nothing.
 use mathlib.Core.Path.{_≡_, refl, ap, ap₂, sym, _∙_, subst}
-use mathlib.Core.Bool.{Bool, cond}
+use mathlib.Core.Logic.{_≢_}
+use mathlib.Core.Bool.{Bool, true, false, cond}
 use mathlib.Core.Option.{some}
 use mathlib.Core.List.{List, [], _∷_, map}
 use Prim.Native.Nat.{ℕ, zero, suc, _-_}
@@ -21,7 +22,7 @@ use Rattle.tag_index.specs.declared.load.Movement.{Movement}
 use Rattle.tag_index.specs.Tables.{Tables, SoundAt}
 use Rattle.tag_index.specs.Changing.{OnDoes, OffDoes}
 use Rattle.tag_index.specs.Loads.{MoveDoes, Moved, end, move}
-use Rattle.tag_index.specs.Histories.{Call, on, off, Reply, answered, Feed, nothingFed, onFed}
+use Rattle.tag_index.specs.Histories.{Call, on, off, Reply, answered, OrderedMap, Sizes, Late, lateOf, latesOf, Feed, nothingFed, onFed, mapOnRow, mapOffRow, mapOn, mapOff, moveRow, mapMove, moveRows, mapMoves, mapReply, mapAfter, mapReplies, mapBehind}
 use Rattle.tag_index.specs.Claims.{callOf, singly, fedSingly, SameAside, AsCalls}
 use Rattle.tag_index.proofs.LoadLaws.{plain-number, by-row, move-sound, none-sound}
 use Rattle.tag_index.proofs.LoadSteps.{on-behind-check, off-behind-check}
@@ -101,6 +102,18 @@ module _ {t u : Tables} (same : SameAside t u) where
           by-row (onRowOf (t .index) (t .keys) (t .used) key r) (λ z. on-done-same (d .done z) (e .done (sym rows ∙ z))) (λ z. both-kept (d .refused z) (e .refused (λ y. z (rows ∙ y)))),
         )
 
+-- Of an on, rows 8 and 7 depend on no page number,
+late-same : {t u : Tables} → SameAside t u → (key r : ℕ) → lateOf t key r ≡ lateOf u key r
+late-same same key r = λ i. record { eight = ltb 15 (on-trees same key r i .0); seven = ltb (same .pages i) (treePages (on-trees same key r i)) }
+
+-- so whatever pages the movements take, the map is fed the same of them.
+pub lates-same : {t u t₁ u₁ : Tables} {xs : List Movement} {us vs : List Tables} {ns ms : List ℕ} → SameAside t u → Moved t xs us ns t₁ → Moved u xs vs ms u₁
+    → latesOf t xs us ≡ latesOf u xs vs
+lates-same same end end = refl
+lates-same same (move {m = x} d p) (move e q) =
+    ap₂ (λ (l : Late) (ls : List Late). l ∷ ls) (late-same same (x .key) (x .«record»))
+    (lates-same (move-same same (x .key) (x .«record») (x .on) d e .1) p q)
+
 -- ---- single calls on sound tables
 
 module _ {t u : Tables} (s : SoundAt t) where
@@ -154,15 +167,21 @@ single-first {t} {v} {cs} {fs} {rs} s key r (suc o) run = go (subst (λ (b : Boo
           rest = run;
         }
 
-moves-as-calls : {t t₁ u v : Tables} {xs : List Movement} {us : List Tables} {ns : List ℕ} {fs : List Feed} {rs : List Reply} → SameAside t u → SoundAt u → Moved t xs us ns t₁
+moves-as-calls : {t t₁ u v : Tables} {xs : List Movement} {us : List Tables} {ns : List ℕ} {fs : List Feed} {rs : List Reply} → SameAside t u → SoundAt t → SoundAt u → Moved t xs us ns t₁
     → Run u (map callOf xs) fs rs v
     → AsCalls ns rs t₁ v
-moves-as-calls same s end end-run = record { answers = refl; left = same }
-moves-as-calls same s (move {m = x} d rest) run =
+moves-as-calls same r s end end-run = record { answers = refl; left = same; sound = (r, s) }
+moves-as-calls same r s (move {m = x} {n = n} d rest) run =
     let f = single-first s (x .key) (x .«record») (x .on) run in
     let one = move-same same (x .key) (x .«record») (x .on) d (f .does) in
-    let all = moves-as-calls (one .1) (move-sound (x .key) (x .«record») (x .on) (f .number) (f .does) s) rest (f .rest) in
-    record { answers = f .first ∙ ap₂ (λ (n : ℕ) (rs : List Reply). answered (plain n) ∷ rs) (sym (one .0)) (all .answers); left = all .left }
+    let r₁ = move-sound (x .key) (x .«record») (x .on) n d r in
+    let s₁ = move-sound (x .key) (x .«record») (x .on) (f .number) (f .does) s in
+    let all = moves-as-calls (one .1) r₁ s₁ rest (f .rest) in
+    record {
+      answers = f .first ∙ ap₂ (λ (m : ℕ) (rs : List Reply). answered (plain m) ∷ rs) (sym (one .0)) (all .answers);
+      left = all .left;
+      sound = all .sound;
+    }
 
 -- ---- a run of the single calls that does what a load did
 
@@ -194,7 +213,8 @@ module _ {xs : List Movement} {answers answers₁ : List ℕ} {t u : Tables} {a 
   pub load-as-calls : {fs : List Feed} {rs : List Reply} {v : Tables} → Run t (map callOf xs) fs rs v → AsCalls (take (length xs) answers₁) rs u v
   load-as-calls run =
       let does = loads-does loaded in
-      moves-as-calls same-tables (none-sound (does .declines) no-row .0) (does .done no-row .moved) run
+      let sound = none-sound (does .declines) no-row .0 in
+      moves-as-calls same-tables sound sound (does .done no-row .moved) run
     where
       same-tables : SameAside t t
       same-tables = record { keys = refl; used = refl; width = refl; entries = refl; pages = refl; held = refl; spare = refl; tree = refl }
@@ -204,3 +224,36 @@ module _ {xs : List Movement} {answers answers₁ : List ℕ} {t u : Tables} {a 
   load-is-calls =
       let does = loads-does loaded in
       moves-are-calls (none-sound (does .declines) no-row .0) (does .done no-row .moved)
+
+-- A load that is refused, by 1 or by 12, changes nothing.
+pub load-refused : {xs : List Movement} {answers answers₁ : List ℕ} {t u : Tables} {a : Answer} → Loads xs answers answers₁ t u a → a .number ≢ 0 → (u ≡ t) × (answers₁ ≡ answers)
+load-refused loaded n =
+    let does = loads-does loaded in
+    does .refused (λ z. n (ap (λ (x : Answer). x .number) (does .answer) ∙ z))
+
+-- ---- the map
+
+-- What the map is fed of the single calls, if it is fed this of each movement.
+abbrev fedEach : List Late → List Feed
+fedEach ls = map (λ (l : Late). record { late = l; lates = [] }) ls
+
+-- The map's step for a load is its steps for the single calls of the movements.
+move-call : (z : Sizes) (l : Late) (m : OrderedMap) (x : Movement)
+    → (mapReply z (record { late = l; lates = [] }) m (callOf x) ≡ answered (plain (moveRow z l m x))) × (mapAfter z (record { late = l; lates = [] }) m (callOf x) ≡ mapMove z l m x)
+move-call z l m x = go (eqb (x .on) 0)
+  where
+    go : (b : Bool)
+        → (mapReply z (record { late = l; lates = [] }) m (cond b (off (x .key)) (on (x .key) (x .«record»))) ≡ answered (plain (cond b (mapOffRow m (x .key)) (mapOnRow z l m (x .key) (x .«record»)))))
+        × (mapAfter z (record { late = l; lates = [] }) m (cond b (off (x .key)) (on (x .key) (x .«record»))) ≡ cond b (mapOff m (x .key)) (mapOn z l m (x .key) (x .«record»)))
+    go true = (refl, refl)
+    go false = (refl, refl)
+
+pub map-as-calls : (z : Sizes) (m : OrderedMap) (xs : List Movement) (ls : List Late) → (mapReplies z m (map callOf xs) (fedEach ls) ≡ singly (moveRows z m xs ls)) × (mapBehind z m (map callOf xs) (fedEach ls) ≡ mapMoves z m xs ls)
+map-as-calls z m [] ls = (refl, refl)
+map-as-calls z m (x ∷ xs) [] = (refl, refl)
+map-as-calls z m (x ∷ xs) (l ∷ ls) =
+    let one = move-call z l m x in
+    let rest = map-as-calls z (mapMove z l m x) xs ls in (
+      ap₂ (λ (r : Reply) (rs : List Reply). r ∷ rs) (one .0) (ap (λ (n : OrderedMap). mapReplies z n (map callOf xs) (fedEach ls)) (one .1) ∙ rest .0),
+      ap (λ (n : OrderedMap). mapBehind z n (map callOf xs) (fedEach ls)) (one .1) ∙ rest .1,
+    )

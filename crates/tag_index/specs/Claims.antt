@@ -14,7 +14,7 @@ use Rattle.index_table.specs.Header.{widthOf, entriesOf, pagesOf, rootOf, heldO
 use Rattle.index_table.specs.Soundness.{treeOf, leafEntries}
 use Rattle.table_find.specs.Answers.{plain}
 use Rattle.tag_index.specs.declared.load.Movement.{Movement}
-use Rattle.tag_index.specs.Tables.{Tables}
+use Rattle.tag_index.specs.Tables.{Tables, SoundAt}
 use Rattle.tag_index.specs.Histories.{Call, on, off, Reply, answered, OrderedMap, Sizes, Feed, nothingFed, onFed, keyWith, mapReplies, mapBehind}
 
 -- The bytes of a page, and its entries.
@@ -80,7 +80,7 @@ fedSingly t (x ∷ xs) [] = []
 fedSingly t (x ∷ xs) (u ∷ between) = cond (eqb (x .on) 0) nothingFed (onFed t (x .key) (x .«record»)) ∷ fedSingly u xs between
 
 -- "answers and end state equal those of the single calls made one by one", where "what is read from the root down, page numbers aside, is the same either
--- way" (01): the register, the header but for the root's number, and the pages from the root down but for theirs. (Every page that is not reached is all zero.)
+-- way" (01): the register, the header but for the root's number, and the pages from the root down but for theirs.
 pub record SameAside (t u : Tables) : Type 0 where
   pub keys : t .keys ≡ u .keys
   pub used : t .used ≡ u .used
@@ -95,3 +95,5 @@ pub record SameAside (t u : Tables) : Type 0 where
 pub record AsCalls (numbers : List ℕ) (replies : List Reply) (u v : Tables) : Type 0 where
   pub answers : replies ≡ singly numbers
   pub left : SameAside u v
+  -- (In sound tables unused entries, and pages that are not reached, are all zero.)
+  pub sound : SoundAt u × SoundAt v

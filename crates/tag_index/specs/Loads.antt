@@ -36,6 +36,7 @@ pub data Moved : Tables → List Movement → List Tables → List ℕ → Table
 abbrev pub loadRow : Bool → ℕ → ℕ → ℕ
 loadRow sound movements answers = cond sound (cond (ltb answers movements) 12 0) 1
 
+-- The row that applies to a load, by what the check says of the tables.
 pub record LoadRow (t : Tables) (movements answers row : ℕ) : Type 0 where
   pub judged : Judged (t .index) (t .keys) (t .used)
   pub number : row ≡ loadRow (judged .sound) movements answers

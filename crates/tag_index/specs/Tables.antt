@@ -9,8 +9,10 @@ pub record Tables : Type 0 where
   pub keys : List ℕ
   pub used : List ℕ
 
+-- The tables that three slices hold.
 abbrev pub tables : List ℕ → List ℕ → List ℕ → Tables
 tables index keys used = record { index = index; keys = keys; used = used }
 
+-- The tables are sound.
 abbrev pub SoundAt : Tables → Type 0
 SoundAt t = Sound (t .index) (t .keys) (t .used)

@@ -38,7 +38,8 @@ pub fn move_one(
     answers[i] = done.number;
 }
 
-// Row 1 or 12, the first that applies to a load of so many movements; 0 if neither does. Changes nothing.
+// Tells row 1 or 12, the first that applies to a load of so many movements; 0 if neither does. Changes nothing: it is lent the slices as `tag_index_load` holds
+// them, since the proof of that function lends them in no other way.
 pub fn load_row(
     index: &mut [u8],
     keys: &mut [u64],
@@ -58,7 +59,7 @@ pub fn load_row(
     0
 }
 
-// How many movements a load makes: all of them, and none where a row declines it.
+// Tells how many movements a load makes: all of them, and none where a row declines it. So the loop of `tag_index_load` has no branch.
 pub fn turns(row: u32, movements: usize) -> usize
     ensures { λ r. ⌜ r ≡ turnsOf row movements ⌝ }
 {
