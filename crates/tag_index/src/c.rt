@@ -78,7 +78,8 @@ pub extern "C" fn tag_index_check(index: &[u8], keys: &[u64], used: &[u8]) -> bo
     crate::read::check(index, keys, used)
 }
 
-// Works through a load. No function that is lent a slice of structs is covered by the borrow checker, so this is the only one, and tools/load-walk writes its proof.
+// Works through a load. The borrow checker covers no function that is lent a slice of structs, so only this one is lent it, and tools/load-walk writes its
+// proof.
 #[no_mangle]
 pub extern "C" fn tag_index_load(
     index: &mut [u8],
