@@ -8,7 +8,7 @@
 --     ListsOf, Loans, Long, Rooms     for each slice: a list; the lifetime and the name of a loan; that the list has its count; that the count has room
 --     Hands               the slices in hand, at lists
 --     Toks, Owns, Kept, Finals        for each loan: the token of its lifetime; what the callee is handed; what the holder keeps; the last list
---     called              from a callee's contract: slices in hand give, after an update, the call, and after it they are in hand at lists of which its fact holds
+--     called              from a callee's contract: slices in hand give, after an update, the call, and then they are in hand at lists that its fact is of
 -- Assumes `Given`, and that the table of calls is monotone under a frame.
 use mathlib.Core.Path.{_≡_, sym, _∙_, ap, subst}
 use Prim.Native.Nat.{ℕ}

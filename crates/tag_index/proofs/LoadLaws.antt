@@ -1,4 +1,5 @@
--- A load from its first movement to its last: what is true after i movements, at the start, from one to the next and at the end. Knows no code. Assumes nothing.
+-- A load from its first movement to its last: what is true after i movements, at the start, from one to the next and at the end. No code is named here.
+-- Assumes nothing.
 use mathlib.Core.Path.{_≡_, refl, sym, ap, _∙_, subst}
 use mathlib.Core.Bool.{Bool, true, false, cond}
 use mathlib.Core.Logic.{_↔_, _≢_}

@@ -59,7 +59,7 @@ pub record Agrees (m : OrderedMap) (t : Tables) : Type 0 where
 -- "All of this is a single claim about the whole history": calls that began on tables of the map m, with what the map was fed, the replies that they gave, and
 -- the tables that they left.
 pub record Follows (z : Sizes) (m : OrderedMap) (calls : List Call) (feeds : List Feed) (replies : List Reply) (left : Tables) : Type 0 where
-  -- "each answer and each list slice is the map's"
+  -- "each answer and each list slice is the map's", and so are the answers of each load
   pub answers : replies ≡ mapReplies z m calls feeds
   pub tables : Agrees (mapBehind z m calls feeds) left
 

@@ -56,7 +56,8 @@ pub record Late : Type 0 where
 abbrev pub lateOf : Tables → ℕ → ℕ → Late
 lateOf t key r = record { eight = rowEight (t .index) (t .keys) key r; seven = rowSeven (t .index) (t .keys) key r }
 
--- The same of each movement of a load, on the tables that it gets; between has the tables that each left. (Of an off, and of a load that is refused, nothing here is looked at.)
+-- The same of each movement of a load, on the tables that it gets; between has the tables that each left. (Of an off, and of a load that is refused,
+-- nothing here is looked at.)
 abbrev pub latesOf : Tables → List Movement → List Tables → List Late
 latesOf t [] between = []
 latesOf t (x ∷ xs) [] = []
@@ -74,6 +75,7 @@ noneLate = record { eight = false; seven = false }
 abbrev pub nothingFed : Feed
 nothingFed = record { late = noneLate; lates = [] }
 
+-- What it is fed of an on, and of a load.
 abbrev pub onFed : Tables → ℕ → ℕ → Feed
 onFed t key r = record { late = lateOf t key r; lates = [] }
 
