@@ -35,6 +35,7 @@ pub mod FittingHerds
 pub mod RegisterHerd
 pub mod RegisterChange
 pub mod SubHerds
+pub mod BoundLaws
 pub mod CheckTests
 pub mod Check
 pub mod CheckLoop

@@ -4,6 +4,7 @@ pub mod Entries
 pub mod Herd
 pub mod LeafList
 pub mod Depths
+pub mod Bounds
 pub mod Trie
 pub mod Search
 pub mod Insertion

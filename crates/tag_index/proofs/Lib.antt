@@ -11,4 +11,5 @@ pub mod RecordKeys
 pub mod SingleCalls
 pub mod MapSteps
 pub mod Corollaries
+pub mod ListBounds
 pub mod MapExamples

@@ -8,6 +8,7 @@ use Prim.Native.Nat.{ℕ, _≤_, _<_}
 use lib.Dec.{eqb}
 use lib.ListN.{length, getD}
 use Rattle.leaf_list.specs.LeafList.{leafList}
+use Rattle.leaf_list.specs.Bounds.{Bounded}
 use Rattle.index_table.specs.Bytes.{AllZero}
 use Rattle.index_table.specs.Layout.{Ref, layoutOf, pageBytes, levelOf, countOf, refsOf}
 use Rattle.index_table.specs.Header.{widthOf, entriesOf, pagesOf, rootOf, heldOf, spareOf}
@@ -62,6 +63,12 @@ pub record Follows (z : Sizes) (m : OrderedMap) (calls : List Call) (feeds : Lis
   -- "each answer and each list slice is the map's", and so are the answers of each load
   pub answers : replies ≡ mapReplies z m calls feeds
   pub tables : Agrees (mapBehind z m calls feeds) left
+
+-- ---- how long the list may get (02, xi)
+
+-- "These hold after any history": of the entries of level 0, read left to right from the root, and the header's records held.
+abbrev pub ListBounded : Tables → Type 0
+ListBounded t = Bounded (widthOf (t .index)) (heldOf (t .index)) (leafEntries (t .index))
 
 -- ---- a load beside single calls (02, vii)
 
