@@ -1,5 +1,6 @@
 //! Every history of on and off at small W: each page tree that any of them can
-//! make, changed by each key and by a load, beside the model.
+//! make, changed by each key and by a load, beside the model; and all that is
+//! claimed of histories holds of it.
 
 use compare::beside::beside;
 use compare::merges::MERGES;
@@ -7,6 +8,7 @@ use compare::met::{Met, CUTS, EMPTIED};
 use compare::tag_index;
 use model::answer::Answer;
 use model::calls::Movement;
+use model::claims::claims;
 use model::history::{Call, Outcome};
 use model::pages::Page;
 use model::table::{read, Tables};
@@ -64,6 +66,8 @@ fn explore(width: usize, entries: usize, met: &mut Met) -> usize {
         for key in 0..keys as u64 {
             let next = step(&tables, key, met);
             if trees.insert(tree(&next)) {
+                let herd = read(next.lent()).herd();
+                assert_eq!(claims(next.lent(), width, &herd), Ok(()));
                 to_do.push(next);
             }
         }

@@ -1,5 +1,6 @@
 //! What is claimed of the tables after every history.
 
+use crate::bounds::bounds;
 use crate::leaf_list::{leaf_list, show, Entry, Herd};
 use crate::table::{header, leaf, page_bytes, stored_page, Lent};
 use std::collections::BTreeSet;
@@ -18,6 +19,8 @@ pub fn claims(lent: Lent, width: usize, held: &Herd) -> Result<(), String> {
     if header.held != held.len() {
         return Err(format!("the header says {} records held", header.held));
     }
+    // By W and the records held that the header says.
+    bounds(header.width, header.held, &leaves)?;
     let unreached = (0..header.pages as u32).filter(|number| !reached.contains(number));
     for number in unreached {
         if page_bytes(lent.index, number).iter().any(|&byte| byte != 0) {

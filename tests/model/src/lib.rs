@@ -6,7 +6,7 @@
 //! - What a herd's index is: [`bits`], [`leaf_list`], [`search`], [`pages`],
 //!   [`merging`], [`index`].
 //! - Its tables and calls: [`table`], [`sound`], [`answer`], [`calls`].
-//! - What it is measured against: [`map`], [`claims`], [`history`].
+//! - What it is measured against: [`map`], [`bounds`], [`claims`], [`history`].
 //! - Tags and the program: [`tag_code`], [`day_book`].
 //! - For comparisons: [`compare`], [`random`], [`shrink`].
 //!
@@ -14,6 +14,7 @@
 
 pub mod answer;
 pub mod bits;
+pub mod bounds;
 pub mod calls;
 pub mod claims;
 pub mod compare;

@@ -7,8 +7,10 @@ use model::calls::Movement;
 use model::claims::claims;
 use model::compare::compare;
 use model::history::{beside_model, call, follow, Call, Failure, History, Outcome, Shape};
+use model::index::Index;
 use model::random::damage::{damaged, Damage, DAMAGES};
 use model::random::histories::{history, small_shape};
+use model::random::keys::largest_key;
 use model::random::sound_tables::sound_index;
 use model::random::Random;
 use model::shrink::shrink;
@@ -247,4 +249,22 @@ fn the_claims_of_histories_notice_damage() {
         }
     }
     assert!(noticed >= 300);
+}
+
+/// The two largest keys reach the bound of their width, and break that of one bit
+/// less.
+#[test]
+fn the_claims_of_histories_hold_the_list_to_the_headers_width() {
+    for width in 2..=64 {
+        let mut index = Index::empty(width, 255, 1, 2);
+        let largest = largest_key(width);
+        assert_eq!(index.on(largest - 1, 0), Ok(()));
+        assert_eq!(index.on(largest, 1), Ok(()));
+        let mut tables = Tables::of(&index);
+        assert_eq!(claims(tables.lent(), width, &index.herd()), Ok(()));
+        tables.index[0] -= 1;
+        let claimed = claims(tables.lent(), width, &index.herd());
+        let why = format!("{} entries, 2 keys have at most {width}", width + 1);
+        assert_eq!(claimed, Err(why));
+    }
 }

@@ -1,6 +1,7 @@
 //! Every history of on and off at small W: all page trees that any of them
-//! can make are sound.
+//! can make are sound, and all that is claimed of histories holds.
 
+use model::claims::claims;
 use model::index::Index;
 use model::sound::sound;
 use model::table::Tables;
@@ -27,7 +28,10 @@ fn explore(width: usize, entries: usize) -> usize {
         for key in 0..keys as u64 {
             let next = step(&index, key);
             if met.insert(next.root.without_numbers()) {
-                assert_eq!(sound(Tables::of(&next).lent()), Ok(()), "{index:?} {key}");
+                let tables = Tables::of(&next);
+                assert_eq!(sound(tables.lent()), Ok(()), "{index:?} {key}");
+                let claimed = claims(tables.lent(), width, &next.herd());
+                assert_eq!(claimed, Ok(()), "{index:?} {key}");
                 to_do.push(next);
             }
         }

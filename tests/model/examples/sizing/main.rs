@@ -2,6 +2,7 @@
 //!
 //! Seeded: every figure is the same in every run.
 
+mod longest;
 mod years;
 
 use model::index::Index;
@@ -299,6 +300,7 @@ fn greedy() {
 }
 
 fn main() {
+    longest::longest_lists();
     held_by_kind(2);
     records_4096(60, 250, 4);
     records_4096(120, 125, 4);
