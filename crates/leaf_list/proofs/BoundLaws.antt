@@ -16,19 +16,19 @@ use Rattle.leaf_list.specs.Bounds.{mostEntries, DummiesFollowed, Bounded
 use Rattle.leaf_list.specs.Trie.{Trie, leaf, zero-only, one-only, fork, write, writeAll, trieOf, trieList}
 use Rattle.leaf_list.proofs.Bits.{bits-length, value-number, value-bound, value-injective}
 use Rattle.leaf_list.proofs.Tries.{Branching, Pruned, Sized, Given, lastRecord}
-use Rattle.leaf_list.proofs.TrieOf.{trieOf-nil, trieOf-pruned, trieOf-sized}
-use Rattle.leaf_list.proofs.HerdItems.{items-lengths}
+use Rattle.leaf_list.proofs.TrieOf.{trieOf-pruned, trieOf-sized}
+use Rattle.leaf_list.proofs.HerdItems.{items-lengths, liveRecords-trieList}
 use Rattle.leaf_list.proofs.LiveRecords.{trieRecords, liveRecords-write}
 use Rattle.leaf_list.proofs.Depths.{Neighbours, frontOf, write-front}
 use Rattle.leaf_list.proofs.SubHerds.{length-recordsOf}
 use Rattle.leaf_list.proofs.Literal.{twin}
-use Rattle.leaf_list.proofs.Laws.{liveRecords-law, neighbours-law}
+use Rattle.leaf_list.proofs.Laws.{empty-law, neighbours-law}
 
 -- ---- the live entries
 
 -- There is one for each key.
 live-length : (w : ℕ) (s : Herd) → Narrow w s → Sorted s → length (liveRecords (trieList w s)) ≡ length s
-live-length w s q o = ap (λ (es : List Entry). length (liveRecords es)) (sym (twin w s q o)) ∙ ap length (liveRecords-law w s q o) ∙ length-recordsOf s
+live-length w s q o = ap length (liveRecords-trieList w s q o) ∙ length-recordsOf s
 
 -- ---- at most 1 + W × (n − 1)
 
@@ -39,6 +39,7 @@ others (zero-only t) = others t
 others (one-only t) = others t
 others (fork a b) = suc (others a + others b)
 
+-- Its records are one more.
 others-records : (t : Trie) (rest : List ℕ) → length (trieRecords t rest) ≡ suc (others t) + length rest
 others-records (leaf k r) rest = omega arith
 others-records (zero-only t) rest = others-records t rest
@@ -82,6 +83,13 @@ most-law w s q o h =
         let n : others t ≡ length s - 1 = omega (arith, e, ap length (liveRecords-write t 0 0 []), others-records t []) in
         rw (sym n) (omega (arith, write-length t w 0 0 [] f g))
 
+-- The figure is 1 for one key, and W more for each key more.
+pub most-steps : (w n : ℕ) → (mostEntries w 1 ≡ 1) × (mostEntries w (suc (suc n)) ≡ mostEntries w (suc n) + w)
+most-steps w n =
+    let one : suc n - 1 ≡ n = omega arith in
+    let more : suc (suc n) - 1 ≡ suc n = omega arith in
+    (omega arith, rw (one, more) (omega (arith, mul-suc w n)))
+
 -- ---- what follows a dummy
 
 -- The last entry, of which there is one, is live.
@@ -90,6 +98,7 @@ LastLive [] = ⊥
 LastLive (e ∷ []) = isNil (pointerOf e) ≡ false
 LastLive (e ∷ f ∷ es) = LastLive (f ∷ es)
 
+-- So it is where a live entry ends the list.
 lastLive-append : (xs : List Entry) (d r : ℕ) → LastLive (xs ++ entry d (some r) ∷ [])
 lastLive-append [] d r = refl
 lastLive-append (x ∷ []) d r = refl
@@ -113,33 +122,36 @@ followed-law w s q o h = dummies-followed (leafList w s) (neighbours-law w s q o
 
 -- "save the sole entry of an empty herd"
 sole-law : (w : ℕ) (s : Herd) → length s ≡ 0 → leafList w s ≡ entry 0 none ∷ []
-sole-law w [] e = twin w [] tt tt ∙ ap writeAll (trieOf-nil w)
+sole-law w [] e = empty-law w
 sole-law w (x ∷ s) e = absurd (omega (arith, e))
 
 -- ---- every herd
 
+-- The list of every herd keeps all three.
 pub bounds-law : (w : ℕ) (s : Herd) → Narrow w s → Sorted s → Bounded w (length s) (leafList w s)
 bounds-law w s q o = record { most = most-law w s q o; followed = followed-law w s q o; sole = sole-law w s }
 
--- An empty herd is an exception: its one entry is a dummy, and none follows.
+-- An empty herd is an exception: its one entry is a dummy, and no entry follows it.
 pub exception-law : (w : ℕ) → DummiesFollowed (leafList w []) → ⊥
-exception-law w g = subst DummiesFollowed (sole-law w [] refl) g .0
+exception-law w g = subst DummiesFollowed (empty-law w) g .0
 
 -- ---- two keys that reach the bound
 
--- So many ones, then a bit.
+-- A key that has so many ones and then a bit.
 abbrev onesThen : ℕ → Bool → Key
 onesThen n b = replicate n true ++ b ∷ []
 
+-- It has one bit more than ones.
 onesThen-length : (n : ℕ) (b : Bool) → length (onesThen n b) ≡ suc n
 onesThen-length n b = length-append (replicate n true) (b ∷ []) ∙ omega (arith, length-replicate {A = Bool} n true)
 
--- With the bit 0, the largest key but one; with the bit 1, the largest.
+-- As a number it is the largest of its bits, or with the bit 0 the largest but one,
 onesThen-value : (n : ℕ) (b : Bool) → value (b ∷ []) + 2 ^ suc n ≡ value (onesThen n b) + 2
 onesThen-value zero b = omega arith
 onesThen-value (suc n) b =
     omega (arith, onesThen-value n b, pow-suc 2 (suc n), ap (λ (i : ℕ). 2 ^ i) (onesThen-length n b))
 
+-- and these numbers have these bits.
 onesThen-bits : (n x : ℕ) (b : Bool) → x + 2 ≡ value (b ∷ []) + 2 ^ suc n → bits (suc n) x ≡ onesThen n b
 onesThen-bits n x b e =
     let same : value (onesThen n b) ≡ x = omega (arith, e, onesThen-value n b) in
@@ -147,16 +159,18 @@ onesThen-bits n x b e =
     let narrow : x < 2 ^ suc n = subst (λ (i : ℕ). x < 2 ^ i) long (omega (arith, value-bound (onesThen n b), same)) in
     value-injective (bits (suc n) x) (onesThen n b) (bits-length (suc n) x ∙ sym long) (value-number (suc n) x narrow ∙ sym same)
 
--- A run of one-bits, and a fork at its end.
+-- A trie that has nothing but one-bits, and forks at its end.
 abbrev deepFork : ℕ → ℕ → ℕ → Trie
 deepFork zero r r′ = fork (leaf [] r) (leaf [] r′)
 deepFork (suc n) r r′ = one-only (deepFork n r r′)
 
+-- It is the trie of these two keys,
 deepFork-trie : (n r r′ : ℕ) → trieOf (suc n) (item (onesThen n false) r ∷ item (onesThen n true) r′ ∷ []) ≡ some (deepFork n r r′)
 deepFork-trie zero r r′ = refl
 deepFork-trie (suc zero) r r′ = refl
 deepFork-trie (suc (suc n)) r r′ = rw (deepFork-trie (suc n) r r′)
 
+-- and it is written as a dummy for each one-bit and two leaves.
 deepFork-length : (n r r′ l c : ℕ) (rest : List Entry) → length (write l (deepFork n r r′) c rest) ≡ suc (suc n) + length rest
 deepFork-length zero r r′ l c rest = omega arith
 deepFork-length (suc n) r r′ l c rest = omega (arith, deepFork-length n r r′ (suc l) c rest)

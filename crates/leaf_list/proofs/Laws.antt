@@ -1,5 +1,5 @@
 -- The laws of the leaf list, over herds of keys of w bits. Assumes nothing.
-use mathlib.Core.Path.{_≡_, subst, ap}
+use mathlib.Core.Path.{_≡_, subst, ap, _∙_}
 use mathlib.Core.Logic.{_≢_}
 use mathlib.Core.Option.{none, some}
 use mathlib.Core.List.{[], List, _∷_}
@@ -11,13 +11,13 @@ use Rattle.leaf_list.specs.Entries.{Entry, entry, liveRecords, depthOf}
 use Rattle.leaf_list.specs.Herd.{Herd, Narrow, Sorted, KeysOf, lookup, add, remove, recordsOf}
 use Rattle.leaf_list.specs.LeafList.{leafList, items}
 use Rattle.leaf_list.specs.Depths.{LeafDepths}
-use Rattle.leaf_list.specs.Trie.{trieOf}
+use Rattle.leaf_list.specs.Trie.{writeAll, trieOf}
 use Rattle.leaf_list.specs.Search.{search, positions, firstExceeding, find, Place}
 use Rattle.leaf_list.specs.Insertion.{insertion, trailing, leafDepth}
 use Rattle.leaf_list.specs.Deletion.{deletion}
 use Rattle.leaf_list.proofs.Lists.{All}
 use Rattle.leaf_list.proofs.Bits.{bits-length}
-use Rattle.leaf_list.proofs.TrieOf.{trieOf-sized, trieOf-pruned}
+use Rattle.leaf_list.proofs.TrieOf.{trieOf-nil, trieOf-sized, trieOf-pruned}
 use Rattle.leaf_list.proofs.HerdLaws.{narrow-add, sorted-add, lookup-absent, narrow-remove, sorted-remove}
 use Rattle.leaf_list.proofs.HerdItems.{find-trieList, insertion-trieList, deletion-trieList, liveRecords-trieList, items-lengths}
 use Rattle.leaf_list.proofs.FoundEntry.{FoundOther, found-trieList, OtherLeaf}
@@ -75,6 +75,10 @@ pub deletion-law : (w k r : ℕ) (s : Herd) → k < 2 ^ w → Narrow w s → Sor
     → deletion (bits w k) (leafList w s) ≡ leafList w (remove k s)
 deletion-law w k r s h q o e =
     rw (twin w s q o, twin w (remove k s) (narrow-remove w k s q) (sorted-remove k s o)) (deletion-trieList w k r s h q o e)
+
+-- "The empty herd has the one entry (0, NIL)."
+pub empty-law : (w : ℕ) → leafList w [] ≡ entry 0 none ∷ []
+empty-law w = twin w [] tt tt ∙ ap writeAll (trieOf-nil w)
 
 -- The live entries, left to right, have the records in key order.
 pub liveRecords-law : (w : ℕ) (s : Herd) → Narrow w s → Sorted s → liveRecords (leafList w s) ≡ recordsOf s

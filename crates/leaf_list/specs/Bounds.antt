@@ -23,7 +23,7 @@ DummiesFollowed [] = Unit {0}
 DummiesFollowed (entry d none ∷ es) = DeeperNext d es × DummiesFollowed es
 DummiesFollowed (entry d (some r) ∷ es) = DummiesFollowed es
 
--- The leaf entries of a herd of n animals, of keys of w bits.
+-- What is claimed of the leaf entries es of a herd of n animals, whose keys have w bits.
 pub record Bounded (w n : ℕ) (es : List Entry) : Type 0 where
   -- "A herd of n animals, n at least 1, has at most 1 + W × (n − 1) leaf entries"
   pub most : 1 ≤ n → length es ≤ mostEntries w n
@@ -32,7 +32,7 @@ pub record Bounded (w n : ℕ) (es : List Entry) : Type 0 where
   -- save the sole entry of an empty herd"
   pub sole : n ≡ 0 → es ≡ entry 0 none ∷ []
 
--- The two largest keys of w bits, with their records.
+-- A herd that holds the two largest keys of w bits, with these records.
 abbrev pub largestTwo : ℕ → ℕ → ℕ → Herd
 largestTwo w r r′ = (2 ^ w - 2, r) ∷ (2 ^ w - 1, r′) ∷ []
 

@@ -2,20 +2,18 @@
 use mathlib.Core.Path.{_≡_, refl, ap, sym, _∙_}
 use mathlib.Core.Option.{none, some}
 use mathlib.Core.List.{List, [], _∷_}
-use Prim.Native.Nat.{ℕ, zero, suc, _+_, _≤_, _<_, _^_}
+use Prim.Native.Nat.{ℕ, suc, _+_, _≤_, _<_, _^_}
 use native.Mathlib.Omega.{arith}
 use lib.ListN.{length}
 use Rattle.leaf_list.specs.Keys.{Key, bits}
 use Rattle.leaf_list.specs.Entries.{Entry, entry, pointerOf}
 use Rattle.leaf_list.specs.Herd.{Herd, Narrow, Sorted, KeysOf, lookup, add, remove}
 use Rattle.leaf_list.specs.LeafList.{leafList}
-use Rattle.leaf_list.specs.Trie.{trieOf, writeAll}
 use Rattle.leaf_list.specs.Search.{positions, search, pointerAt, compared}
 use Rattle.leaf_list.proofs.Bits.{bits-length}
 use Rattle.leaf_list.proofs.Depths.{Neighbours}
 use Rattle.leaf_list.proofs.Positions.{Beyond, positions-beyond, positions-rise}
-use Rattle.leaf_list.proofs.Literal.{twin}
-use Rattle.leaf_list.proofs.Laws.{find-law, insertion-law, found-law, deletion-law, closed-law, neighbours-law}
+use Rattle.leaf_list.proofs.Laws.{empty-law, find-law, insertion-law, found-law, deletion-law, closed-law, neighbours-law}
 use Rattle.page_tree.specs.Rows.{Closed, lastDepth}
 use Rattle.page_tree.specs.Tree.{Node, depth, Tree, leavesOf, SoundTree, RootRule}
 use Rattle.page_tree.specs.Finding.{findIn}
@@ -47,12 +45,8 @@ empty-pages w E one =
     record {
       sound = ((refl, omega arith), (tt, tt));
       root = λ h. absurd (omega arith);
-      level0 = sym (twin w [] tt tt ∙ ap writeAll (none-held w));
+      level0 = sym (empty-law w);
     }
-  where
-    none-held : (w : ℕ) → trieOf w [] ≡ none
-    none-held zero = refl
-    none-held (suc w) = refl
 
 module _ (w E : ℕ) (s : Herd) (t : Tree) (narrow : Narrow w s) (sorted : Sorted s) (h : HerdTree w E s t) where
   -- "a last depth 0 closes the list"

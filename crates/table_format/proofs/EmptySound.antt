@@ -12,7 +12,7 @@ use lib.ListN.{length, getD, take, drop, replicate, length-append, length-replic
 use Rattle.leaf_list.specs.Entries.{entry}
 use Rattle.leaf_list.specs.LeafList.{leafList}
 use Rattle.leaf_list.specs.Register.{keyAt, herdFrom, herdOf, countInUse}
-use Rattle.leaf_list.proofs.Literal.{twin}
+use Rattle.leaf_list.proofs.Laws.{empty-law}
 use Rattle.page_tree.specs.Tree.{leavesOf, leaves as leaves-of}
 use Rattle.byte_moves.specs.Over.{over}
 use Rattle.byte_moves.proofs.OverLaws.{over-append, length-over}
@@ -52,11 +52,6 @@ free-register w n = record {
   records = λ r h. record { byte = inl (zeros-read n r); free = λ z. zeros-read n r; narrow = λ z. absurd (omega (arith, zeros-read n r, z)) };
   distinct = λ r s p q e. absurd (omega (arith, zeros-read n r, p));
 }
-
--- "The empty herd has the one entry (0, NIL)."
-empty-list : (w : ℕ) → leafList w [] ≡ entry 0 none ∷ []
-empty-list zero = twin zero [] tt tt
-empty-list (suc w) = twin (suc w) [] tt tt
 
 -- ---- the table
 
@@ -226,7 +221,7 @@ module _ (w e p n : ℕ) (limits : Limits w e p n) where
         spare = kept .spare ∙ read .spare;
       })
       (subst (Limits w e p) (sym (length-replicate {A = ℕ} n 0)) limits) (length-store (layoutOf e) headed 0 (rowPage e 0 row) ∙ long) refl (free-register w n) root-level pages
-      (leaves ∙ sym (ap (leafList w) (free-herd (keyAt (replicate n 0)) 0 n) ∙ empty-list w))
+      (leaves ∙ sym (ap (leafList w) (free-herd (keyAt (replicate n 0)) 0 n) ∙ empty-law w))
       (sym (free-count n)))
 
 -- ---- a done format

@@ -1,11 +1,10 @@
 -- How long the leaf list may get after any history, and what follows a dummy (02, xi). Assumes nothing.
-use mathlib.Core.Path.{_≡_, refl, ap, sym, subst, _∙_}
+use mathlib.Core.Path.{_≡_, refl, ap, sym, _∙_}
 use mathlib.Core.List.{List, [], _∷_}
-use Prim.Native.Nat.{ℕ, zero, suc, _^_, _-_, _≤_, _<_}
+use Prim.Native.Nat.{ℕ, _^_, _-_, _≤_}
 use native.Mathlib.Omega.{arith}
 use lib.ListN.{length}
 use borrow.Author.Tests.{le-ltb}
-use Rattle.leaf_list.specs.Herd.{Sorted}
 use Rattle.leaf_list.specs.Bounds.{mostEntries, largestTwo}
 use Rattle.leaf_list.proofs.BoundLaws.{bounds-law, reached-law}
 use Rattle.index_table.specs.Header.{widthOf, heldOf}
@@ -18,12 +17,8 @@ use Rattle.tag_index.proofs.Runs.{History, mapOf}
 use Rattle.tag_index.proofs.Histories.{history-runs, every-history}
 use Rattle.tag_index.proofs.Corollaries.{map-sorted, map-narrow}
 
--- The two largest keys of w bits are two only if w is not 0.
-two-apart : (w : ℕ) → 2 ^ w - 2 < 2 ^ w - 1 → 1 ≤ w
-two-apart zero o = absurd (omega (arith, o))
-two-apart (suc w) o = omega arith
-
 module _ {calls : List Call} {feeds : List Feed} {replies : List Reply} {left : Tables} (h : History calls feeds replies left) where
+  -- The header's W is the map's.
   header-width : widthOf (left .index) ≡ mapOf h .width
   header-width = history-runs h .holds .width
 
@@ -38,12 +33,12 @@ module _ {calls : List Call} {feeds : List Feed} {replies : List Reply} {left : 
       → length (leafEntries (left .index)) ≡ mostEntries (widthOf (left .index)) (heldOf (left .index))
   largest-reach {r} {r′} e =
       let after = every-history h .tables in
-      let wide : 1 ≤ mapOf h .width = two-apart (mapOf h .width) (subst Sorted e (map-sorted h) .0 .0) in
+      let wide : 1 ≤ mapOf h .width = rw (← header-width) (history-runs h .holds .sound .limits .width-low) in
       rw (after .leaves, after .held, header-width, e) (reached-law (mapOf h .width) r r′ wide .reached)
 
 -- ---- the history that puts these two on
 
--- What the first of some replies says, and what comes behind it.
+-- The number that the first of some replies says, and the replies behind it.
 abbrev firstNumber : List Reply → ℕ
 firstNumber [] = 0
 firstNumber (answered a ∷ rs) = a .number
@@ -54,7 +49,7 @@ abbrev behindFirst : List Reply → List Reply
 behindFirst [] = []
 behindFirst (x ∷ rs) = rs
 
--- The map behind two ons that are done.
+-- The map behind these two ons, where both are done, holds the two and no other.
 largest-map : (z : Sizes) (w r r′ : ℕ) (feeds : List Feed)
     → answered (plain 0) ∷ answered (plain 0) ∷ [] ≡ mapReplies z (emptyMap w) (on (2 ^ w - 2) r ∷ on (2 ^ w - 1) r′ ∷ []) feeds
     → mapBehind z (emptyMap w) (on (2 ^ w - 2) r ∷ on (2 ^ w - 1) r′ ∷ []) feeds ≡ record { width = w; herd = largestTwo w r r′ }
@@ -68,7 +63,7 @@ largest-map z w r r′ (f ∷ g ∷ fs) e =
     sym (ap (λ (rs : List Reply). firstNumber (behindFirst rs)) e ∙ ap (λ (m : OrderedMap). mapOnRow z (g .late) m (2 ^ w - 1) r′) behind-first) in
     rw (behind-first, second, le-ltb (2 ^ w - 1) (2 ^ w - 2) (omega arith))
 
--- The two largest keys of w bits, put on behind a format, make 1 + w entries.
+-- The two largest keys of w bits, put on behind a format and both done, make as many entries as the bound allows.
 pub two-ons-reach : {w r r′ : ℕ} {feeds : List Feed} {left : Tables}
     → (h : History (on (2 ^ w - 2) r ∷ on (2 ^ w - 1) r′ ∷ []) feeds (answered (plain 0) ∷ answered (plain 0) ∷ []) left) → h .width ≡ w
     → length (leafEntries (left .index)) ≡ mostEntries w 2

@@ -144,11 +144,12 @@ fn every_wrong_rule_is_broken_by_a_herd() {
 
 /// Lists at W 3, the keys that they are said to hold, and words from what is
 /// said of them.
-const WRONG_LISTS: [(usize, &str, &str); 13] = [
+const WRONG_LISTS: [(usize, &str, &str); 14] = [
     // An entry too many.
     (2, "(1,-)(2,-)(3,1)(1,3)(0,2)", "5 entries"),
     (2, "(3,1)(2,2)(3,3)(1,4)(0,5)", "5 entries"),
     (1, "(1,1)(0,2)", "2 entries"),
+    (3, "(1,-)(2,-)(3,1)(1,-)(2,-)(3,2)(1,3)(0,4)", "8 entries"),
     // A dummy last.
     (1, "(0,-)", "dummy at 0"),
     (2, "(1,-)(2,1)(0,-)", "dummy at 2"),
