@@ -22,7 +22,7 @@ module _ {calls : List Call} {feeds : List Feed} {replies : List Reply} {left : 
   header-width : widthOf (left .index) ≡ mapOf h .width
   header-width = history-runs h .holds .width
 
-  -- "These hold after any history": the bound, and what follows a dummy,
+  -- "These hold after any history": of the tables that it left, the bound and what follows a dummy,
   pub list-bounded : ListBounded left
   list-bounded =
       let after = every-history h .tables in

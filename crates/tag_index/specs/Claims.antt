@@ -66,7 +66,7 @@ pub record Follows (z : Sizes) (m : OrderedMap) (calls : List Call) (feeds : Lis
 
 -- ---- how long the list may get (02, xi)
 
--- "These hold after any history": of the entries of level 0, read left to right from the root, and the header's records held.
+-- "These hold after any history": of the entries of level 0, read left to right from the root, with W and the records held as the header has them.
 abbrev pub ListBounded : Tables → Type 0
 ListBounded t = Bounded (widthOf (t .index)) (heldOf (t .index)) (leafEntries (t .index))
 
