@@ -300,7 +300,10 @@ fn greedy() {
 }
 
 fn main() {
-    longest::longest_lists();
+    let kinds = longest::kinds();
+    longest::longest_lists(&kinds);
+    longest::pages_of_longest(&kinds);
+    longest::fewest_of_longest(&kinds);
     held_by_kind(2);
     records_4096(60, 250, 4);
     records_4096(120, 125, 4);
