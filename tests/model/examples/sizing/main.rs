@@ -51,29 +51,29 @@ const KINDS: [Kind; 9] = [
         (0..count).map(|_| random.number()).collect()
     }),
     (
-        "worst tags of 15 digits: pairs that part in bit 64",
+        "pairs of tags of 15 digits that part in bit 64",
         |_, count| {
             // The upper 13 bits of the national number count the pairs.
             (0..count.min(1 << 14) as u64)
-                .map(|i| tag(826, (i / 2) << 25 | ((1 << 25) - 2) | i % 2))
+                .map(|i| tag(826, (i / 2) << 25 | ((1 << 25) - 2) | (i % 2)))
                 .collect()
         },
     ),
     (
-        "worst codes of a country up to 999: pairs that part in bit 64",
+        "pairs of codes of a country up to 999 that part in bit 64",
         |_, count| {
             // The upper 16 bits count the pairs; country 991 has nine one-bits.
             let ones = 991 << 38 | ((1u64 << 38) - 2);
             (0..count.min(1 << 17) as u64)
-                .map(|i| (i / 2) << 48 | ones | i % 2)
+                .map(|i| (i / 2) << 48 | ones | (i % 2))
                 .collect()
         },
     ),
-    ("worst keys: pairs that part in bit 64", |_, count| {
+    ("pairs of any keys that part in bit 64", |_, count| {
         // The upper 15 bits count the pairs; all ones up to bit 63.
         let ones = (1u64 << 49) - 2;
         (0..count.min(1 << 16) as u64)
-            .map(|i| (i / 2) << 49 | ones | i % 2)
+            .map(|i| (i / 2) << 49 | ones | (i % 2))
             .collect()
     }),
 ];
