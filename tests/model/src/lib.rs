@@ -6,7 +6,8 @@
 //! - What a herd's index is: [`bits`], [`leaf_list`], [`search`], [`pages`],
 //!   [`merging`], [`index`].
 //! - Its tables and calls: [`table`], [`sound`], [`answer`], [`calls`].
-//! - What it is measured against: [`map`], [`bounds`], [`claims`], [`history`].
+//! - What it is measured against: [`map`], [`bounds`], [`longest`], [`claims`],
+//!   [`history`].
 //! - Tags and the program: [`tag_code`], [`day_book`].
 //! - For comparisons: [`compare`], [`random`], [`shrink`].
 //!
@@ -22,6 +23,7 @@ pub mod day_book;
 pub mod history;
 pub mod index;
 pub mod leaf_list;
+pub mod longest;
 pub mod map;
 pub mod merging;
 pub mod pages;

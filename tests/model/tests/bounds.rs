@@ -4,11 +4,12 @@
 mod common;
 
 use common::seeds;
-use model::bits::bits;
-use model::bounds::{bounds, longest, longest_after, longest_up_to, most_entries};
+use model::bounds::{bounds, most_entries};
 use model::leaf_list::{leaf_list, show, Entry, Herd};
+use model::longest::Longest;
 use model::random::keys::{herd, largest_key, SPREADS};
 use model::random::Random;
+use std::rc::Rc;
 
 /// The herd whose keys are the one-bits of `set`, each its own record.
 fn herd_of(set: u32) -> Herd {
@@ -43,7 +44,7 @@ fn every_herd_of_up_to_4_bits_keeps_the_bounds() {
 
 #[test]
 fn random_herds_keep_the_bounds() {
-    let longest: Vec<Vec<usize>> = (0..=64).map(|width| longest(width, 60)).collect();
+    let longest: Vec<Rc<Longest>> = (0..=64).map(|width| Longest::any(width, 60)).collect();
     let (mut empty, mut long, mut reach) = (0, 0, 0);
     for seed in seeds(4_000) {
         let mut random = Random::new(seed);
@@ -56,7 +57,7 @@ fn random_herds_keep_the_bounds() {
         let herd = herd(&mut random, width, spread, size, 80);
         let (held, list) = (herd.len(), leaf_list(width, &herd));
         assert_eq!(bounds(width, held, &list), Ok(()), "seed {seed}");
-        assert!(list.len() <= longest[width][held], "seed {seed}");
+        assert!(list.len() <= longest[width].most()[held], "seed {seed}");
         empty += usize::from(held == 0);
         long += usize::from(held >= 10 && list.len() >= 2 * held);
         reach += usize::from(held >= 2 && list.len() == most_entries(width, held));
@@ -186,92 +187,5 @@ fn lists_that_break_a_claim_are_refused() {
     let kept = [(0, "(0,-)"), (1, "(0,1)"), (2, "(1,-)(2,-)(3,1)(0,2)")];
     for (held, shown) in kept {
         assert_eq!(bounds(3, held, &entries(shown)), Ok(()), "{shown}");
-    }
-}
-
-/// The most entries that herds of keys between these ends have, by their number
-/// of keys; a herd is given as its keys and the entries of its list.
-fn most_met(herds: &[(Vec<u64>, usize)], first: u64, last: u64) -> Vec<usize> {
-    let mut most = vec![0; (last - first + 2) as usize];
-    for (keys, entries) in herds {
-        if keys.iter().all(|key| (first..=last).contains(key)) {
-            let met = &mut most[keys.len()];
-            *met = (*met).max(*entries);
-        }
-    }
-    most
-}
-
-#[test]
-fn the_longest_lists_of_up_to_4_bits_are_as_computed() {
-    for width in 1..=4 {
-        let all = largest_key(width);
-        let listed = |(herd, list): (Herd, Vec<Entry>)| (herd.into_keys().collect(), list.len());
-        let herds: Vec<(Vec<u64>, usize)> = every_herd(width).map(listed).collect();
-        assert_eq!(most_met(&herds, 0, all), longest(width, 16), "W {width}");
-        for length in 1..=width {
-            let free = width - length;
-            for stem in 0..=largest_key(length) {
-                let what = format!("W {width}, {stem} in {length} bits");
-                let (first, last) = (stem << free, ((stem + 1) << free) - 1);
-                let after = longest_after(&bits(stem, length), longest(free, 16));
-                assert_eq!(most_met(&herds, first, last), after, "{what}");
-                let up_to = longest_up_to(&bits(stem, length), free, 16);
-                assert_eq!(most_met(&herds, 0, last), up_to, "{what}");
-            }
-        }
-    }
-}
-
-/// The keys of a herd with the longest list of so many, by what is computed for
-/// the widths from 0 on.
-fn longest_herd(computed: &[Vec<usize>], held: usize) -> Vec<u64> {
-    if held < 2 {
-        return vec![0; held];
-    }
-    let (most, narrower) = computed.split_last().expect("a width");
-    let below = narrower.last().expect("a bit");
-    let entries = |zeros: usize| match zeros {
-        0 => Some(1 + below.get(held)?),
-        _ => Some(below.get(zeros)? + below.get(held - zeros)?),
-    };
-    let mut choices = (0..held).filter(|&zeros| entries(zeros) == Some(most[held]));
-    let zeros = choices.next().expect("a choice");
-    let ones = longest_herd(narrower, held - zeros).into_iter();
-    let ones = ones.map(|key| 1 << (narrower.len() - 1) | key);
-    longest_herd(narrower, zeros)
-        .into_iter()
-        .chain(ones)
-        .collect()
-}
-
-#[test]
-fn a_herd_at_every_width_has_the_longest_list_computed() {
-    let computed: Vec<Vec<usize>> = (0..=64).map(|width| longest(width, 100)).collect();
-    for width in 1..=64 {
-        for held in [0, 1, 2, 3, 4, 7, 10, 31, 100] {
-            let Some(&most) = computed[width].get(held) else {
-                continue;
-            };
-            let keys = longest_herd(&computed[..=width], held);
-            let herd: Herd = keys.into_iter().zip(0..).collect();
-            assert_eq!(herd.len(), held);
-            assert_eq!(
-                leaf_list(width, &herd).len(),
-                most,
-                "W {width}, {held} keys"
-            );
-        }
-    }
-}
-
-#[test]
-fn the_longest_lists_computed_keep_the_bound_and_reach_it_up_to_two_keys() {
-    for width in 1..=64 {
-        for (held, most) in longest(width, 300).into_iter().enumerate().skip(1) {
-            let bound = most_entries(width, held);
-            assert!(most <= bound, "W {width}, {held} keys");
-            assert_eq!(most == bound, held <= 2, "W {width}, {held} keys");
-        }
     }
 }

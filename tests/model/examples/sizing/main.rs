@@ -2,6 +2,7 @@
 //!
 //! Seeded: every figure is the same in every run.
 
+mod few_keys;
 mod longest;
 mod years;
 
@@ -51,29 +52,29 @@ const KINDS: [Kind; 9] = [
         (0..count).map(|_| random.number()).collect()
     }),
     (
-        "worst tags of 15 digits: pairs that part in bit 64",
+        "pairs of tags of 15 digits that part in bit 64",
         |_, count| {
             // The upper 13 bits of the national number count the pairs.
             (0..count.min(1 << 14) as u64)
-                .map(|i| tag(826, (i / 2) << 25 | ((1 << 25) - 2) | i % 2))
+                .map(|i| tag(826, (i / 2) << 25 | ((1 << 25) - 2) | (i % 2)))
                 .collect()
         },
     ),
     (
-        "worst codes of a country up to 999: pairs that part in bit 64",
+        "pairs of codes of a country up to 999 that part in bit 64",
         |_, count| {
             // The upper 16 bits count the pairs; country 991 has nine one-bits.
             let ones = 991 << 38 | ((1u64 << 38) - 2);
             (0..count.min(1 << 17) as u64)
-                .map(|i| (i / 2) << 48 | ones | i % 2)
+                .map(|i| (i / 2) << 48 | ones | (i % 2))
                 .collect()
         },
     ),
-    ("worst keys: pairs that part in bit 64", |_, count| {
+    ("pairs of any keys that part in bit 64", |_, count| {
         // The upper 15 bits count the pairs; all ones up to bit 63.
         let ones = (1u64 << 49) - 2;
         (0..count.min(1 << 16) as u64)
-            .map(|i| (i / 2) << 49 | ones | i % 2)
+            .map(|i| (i / 2) << 49 | ones | (i % 2))
             .collect()
     }),
 ];
@@ -245,67 +246,18 @@ fn steady_herd(
     (most, index.herd().into_keys().collect())
 }
 
-/// The fewest keys that a greedy search found to use up the pages: of many
-/// keys that part from a held one at some bit, with ones after or before, it
-/// takes the one that adds most pages, then most entries.
-fn greedy() {
-    println!(
-        "## Fewest keys found that use up the pages (greedy search, not shown to be the least)"
-    );
-    println!("| E | P | keys held when the first was declined | row |");
-    println!("|---:|---:|---:|---:|");
-    for (e, p) in SAME_BYTES.into_iter().chain([(60, 250)]) {
-        let mut random = Random::new(0);
-        let mut index = Index::empty(64, e, p, MOST_RECORDS);
-        let mut held = vec![u64::MAX];
-        index.on(u64::MAX, 0).expect("the first key");
-        let row = loop {
-            let mut best: Option<(usize, usize, u64, Index)> = None;
-            let mut declined = None;
-            for _ in 0..24 {
-                let near = *random.pick(&held);
-                let bit = random.below(64);
-                let tail = if random.percent(50) {
-                    u64::MAX
-                } else {
-                    random.number()
-                };
-                let below = (1u64 << bit) - 1;
-                let far = (near ^ (1 << bit)) & !below | tail & below;
-                for key in [near ^ (1 << random.below(3)), far] {
-                    let mut next = index.clone();
-                    match next.on(key, held.len() as u64) {
-                        Ok(()) => {
-                            let size = (next.root.pages().len(), next.root.leaves().len());
-                            if best.as_ref().map_or(true, |b| (b.0, b.1) < size) {
-                                best = Some((size.0, size.1, key, next));
-                            }
-                        }
-                        Err(5) => {}
-                        Err(row) => declined = Some(row),
-                    }
-                }
-            }
-            if let Some(row) = declined {
-                break row;
-            }
-            if let Some((_, _, key, next)) = best {
-                held.push(key);
-                index = next;
-            }
-        };
-        println!("| {e} | {p} | {} | {row} |", held.len());
-    }
-    println!();
-}
-
 fn main() {
-    longest::longest_lists();
+    let kinds = longest::kinds();
+    longest::longest_lists(&kinds);
+    longest::pages_of_longest(&kinds);
+    longest::fewest_of_longest(&kinds);
     held_by_kind(2);
     records_4096(60, 250, 4);
     records_4096(120, 125, 4);
     churn();
     years::years();
     years::years_to_the_last_page(2);
-    greedy();
+    few_keys::greedy();
+    few_keys::fewest_of_groups();
+    few_keys::pages_of_groups();
 }
