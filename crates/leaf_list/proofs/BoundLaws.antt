@@ -83,13 +83,6 @@ most-law w s q o h =
         let n : others t ≡ length s - 1 = omega (arith, e, ap length (liveRecords-write t 0 0 []), others-records t []) in
         rw (sym n) (omega (arith, write-length t w 0 0 [] f g))
 
--- The figure is 1 for one key, and W more for each key more.
-pub most-steps : (w n : ℕ) → (mostEntries w 1 ≡ 1) × (mostEntries w (suc (suc n)) ≡ mostEntries w (suc n) + w)
-most-steps w n =
-    let one : suc n - 1 ≡ n = omega arith in
-    let more : suc (suc n) - 1 ≡ suc n = omega arith in
-    (omega arith, rw (one, more) (omega (arith, mul-suc w n)))
-
 -- ---- what follows a dummy
 
 -- The last entry, of which there is one, is live.
@@ -199,3 +192,12 @@ reached-law (suc n) r r′ h = record { two = refl; narrow = narrow; sorted = so
     reached =
         ap length (twin (suc n) (largestTwo (suc n) r r′) narrow sorted)
         ∙ rw (low, high, deepFork-trie n r r′) (deepFork-length n r r′ 0 0 [] ∙ omega arith)
+
+-- ---- the figure itself
+
+-- It is 1 for one key, and W more for each further key: so it is no higher from three keys on, where no herd is known that reaches it.
+pub most-steps : (w n : ℕ) → (mostEntries w 1 ≡ 1) × (mostEntries w (suc (suc n)) ≡ mostEntries w (suc n) + w)
+most-steps w n =
+    let one : suc n - 1 ≡ n = omega arith in
+    let more : suc (suc n) - 1 ≡ suc n = omega arith in
+    (omega arith, rw (one, more) (omega (arith, mul-suc w n)))
