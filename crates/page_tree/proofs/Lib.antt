@@ -30,7 +30,8 @@ pub mod FlatInsertion
 pub mod FlatDeletion
 pub mod HerdPages
 pub mod RowLaws
-pub mod Choice
+pub mod QuickCutLaws
+pub mod QuickSearchLaws
 pub mod PartEnds
 pub mod RowCuts
 pub mod NumberedLaws

@@ -7,23 +7,27 @@ use native.Mathlib.Numerals.{add-one}
 use lib.ListN.{length, getD, set, take}
 use lib.Seq.{slice, take-suc-set, length-slice, length-take-le, getD-take, take-length}
 use Rattle.page_tree.specs.declared.Row.{Row}
+use Rattle.page_tree.specs.declared.Cut.{Cut}
 use Rattle.page_tree.specs.declared.Cuts.{Cuts}
-use Rattle.page_tree.specs.Rows.{concat, lastDepth}
+use Rattle.page_tree.specs.Rows.{concat, lastDepth, LastBelow}
 use Rattle.page_tree.specs.Cutting.{split, parts}
-use Rattle.page_tree.specs.Row.{Pair, depthOf, places, rowOf, partOf, endsOf, endsIn, CutPre, CutPost, CutsPost}
+use Rattle.page_tree.specs.Row.{Pair, depthOf, places, rowOf, partOf, endsOf, endsIn, SplitPost, CutPre, CutPost, CutsPost}
 use Rattle.page_tree.proofs.CuttingLaws.{cut-fits, cut-join}
+use Rattle.page_tree.proofs.ClosedRows.{closed-below}
+use Rattle.page_tree.proofs.Splitting.{split-join, split-shallowest, split-closed}
+use Rattle.page_tree.proofs.QuickCutLaws.{quick-law}
 use Rattle.leaf_list.proofs.Lists.{all-at}
-use Rattle.page_tree.proofs.PartEnds.{startOf, length-ends, end-at, end-within, part-at, start-next, parts-sizes, ends-long}
-use Rattle.page_tree.proofs.RowLaws.{Full, length-zip, place-at, length-row, part-of-row, slice-more}
+use Rattle.page_tree.proofs.PartEnds.{slice-left, slice-right, startOf, length-ends, end-at, end-within, part-at, start-next, parts-sizes, ends-long}
+use Rattle.page_tree.proofs.RowLaws.{Full, length-zip, place-at, length-row, part-of-row, last-slice}
 
 -- A part is cut at m, inside it, and both its parts can be cut again, one behind the other.
 pub record Inside (e : ℕ) (row : Row) (from to m : ℕ) (before : Cuts) : Type 0 where
   pub after : from < m
   pub ahead : m < to
-  pub left-part : CutPre e from m before
-  pub right-part : (left : Cuts) → CutPost e row from m before left → CutPre e m to left
+  pub left-part : CutPre e row from m before
+  pub right-part : (left : Cuts) → CutPost e row from m before left → CutPre e row m to left
 
-module _ {e from to : ℕ} {before : Cuts} (row : Row) (full : Full (row .depths) (row .pointers)) (pre : CutPre e from to before) where
+module _ {e from to : ℕ} {before : Cuts} (row : Row) (full : Full (row .depths) (row .pointers)) (pre : CutPre e row from to before) where
   -- The part is inside the row.
   fits : to ≤ length (places row)
   fits = omega (arith, pre .within, length-zip (row .depths) (row .pointers) full)
@@ -42,12 +46,43 @@ module _ {e from to : ℕ} {before : Cuts} (row : Row) (full : Full (row .depths
         few = omega arith;
       }
 
-  -- Cut at m: the left part, then the right.
-  module _ (long : e < to - from) (m : ℕ) (at : m ≡ from + length (split depthOf (partOf row from to) .1)) where
-    -- Where m is, and the ends of both.
+  -- The part, and the two in which 01 cuts it.
+  abbrev whole : List Pair
+  whole = partOf row from to
+
+  abbrev lower : List Pair
+  lower = split depthOf whole .1
+
+  abbrev upper : List Pair
+  upper = split depthOf whole .2
+
+  -- Cut where the search found: the left part, then the right.
+  module _ (long : e < to - from) (cut : Cut) (found : SplitPost row from to cut) where
+    abbrev m : ℕ
+    m = cut .at
+
+    -- The place found is 01's.
+    at : m ≡ from + length lower
+    at = found .place ∙ ap (λ (k : ℕ). from + k) (quick-law depthOf whole (pre .closed))
+
+    -- Where it is, and the ends of both parts.
     halves : (from < m) × (m < to)
-        × (endsOf from (parts depthOf e (partOf row from to)) ≡ endsOf from (parts depthOf e (partOf row from m)) ++ endsOf m (parts depthOf e (partOf row m to)))
+        × (endsOf from (parts depthOf e whole) ≡ endsOf from (parts depthOf e (partOf row from m)) ++ endsOf m (parts depthOf e (partOf row m to)))
     halves = ends-long depthOf e (pre .size) (places row) from to m (omega (arith, pre .some)) fits long at
+
+    two : 2 ≤ length whole
+    two = omega (arith, length-slice from to (places row) fits, pre .size)
+
+    -- In both the last depth is below all others.
+    left-closed : LastBelow depthOf (partOf row from m)
+    left-closed =
+        rw (slice-left from m to (places row) lower upper (omega (arith, halves .1)) fits at (sym (split-join depthOf whole)))
+        (closed-below depthOf (split depthOf whole .0) lower (split-shallowest depthOf whole two .first))
+
+    right-closed : LastBelow depthOf (partOf row m to)
+    right-closed =
+        rw (slice-right from m to (places row) lower upper at (sym (split-join depthOf whole)))
+        (closed-below depthOf (lastDepth depthOf 0 whole) upper (split-closed depthOf (lastDepth depthOf 0 whole) whole two (pre .closed) .1))
 
     -- What both calls ask.
     pub cut-inside : Inside e row from to m before
@@ -59,12 +94,14 @@ module _ {e from to : ℕ} {before : Cuts} (row : Row) (full : Full (row .depths
         within = omega (arith, pre .within, halves .1);
         size = pre .size;
         room = omega (arith, pre .room, halves .1);
+        closed = left-closed;
       };
       right-part = λ left h. record {
         some = halves .1;
         within = pre .within;
         size = pre .size;
         room = omega (arith, pre .room, pre .size, h .few, halves .0, halves .1);
+        closed = right-closed;
       };
     }
 
@@ -141,14 +178,5 @@ cuts-end {e} {row} {cuts} full small h =
 pub part-last : (row : Row) → Full (row .depths) (row .pointers) → (from to τ : ℕ) → from < to → to ≤ 319
     → lastDepth depthOf τ (partOf row from to) ≡ getD (row .depths) (to - 1) 0
 part-last row full from to τ h l =
-    let z = places row in
-    let n = length-zip (row .depths) (row .pointers) full in
-    let a : to ≡ to - 1 + 1 = omega arith in
-    ap (λ (k : ℕ). lastDepth depthOf τ (slice from k z)) a
-    ∙ ap (lastDepth depthOf τ) (slice-more from (to - 1) z (0, 0) (omega arith) (omega arith))
-    ∙ last-behind τ (slice from (to - 1) z) (getD z (to - 1) (0, 0))
+    last-slice depthOf τ (0, 0) (places row) from to h (omega (arith, length-zip (row .depths) (row .pointers) full))
     ∙ ap depthOf (place-at (row .depths) (row .pointers) full (to - 1) (omega arith))
-  where
-    last-behind : (τ : ℕ) (xs : List Pair) (x : Pair) → lastDepth depthOf τ (xs ++ x ∷ []) ≡ depthOf x
-    last-behind τ [] x = refl
-    last-behind τ (y ∷ ys) x = last-behind (depthOf y) ys x

@@ -7,7 +7,9 @@ use native.Mathlib.Numerals.{add-one}
 use lib.ListN.{length, getD, set, take, drop, length-set}
 use lib.Seq.{slice, take-suc, take-take, take-suc-set, take-set-lt, getD-take, drop-append-le, slice-empty, length-take-le}
 use Rattle.page_tree.specs.declared.Row.{Row}
+use Rattle.page_tree.specs.Rows.{lastDepth}
 use Rattle.page_tree.specs.Row.{Pair, places, rowOf, partOf}
+use Rattle.page_tree.proofs.ClosedRows.{lastDepth-append}
 
 -- The two arrays of a row have 319 elements each.
 abbrev pub Full : List ℕ → List ℕ → Type 0
@@ -76,6 +78,15 @@ stored-behind ds ps full n d p l =
 pub slice-more : {A : Type 0} (from i : ℕ) (z : List A) (none : A) → from ≤ i → i < length z → slice from (i + 1) z ≡ slice from i z ++ getD z i none ∷ []
 slice-more from i z none h l =
     rw (add-one i, take-suc z i none l) (drop-append-le from (take i z) (getD z i none ∷ []) (omega (arith, length-take-le i z (omega arith))))
+
+-- Its last depth is that of its last thing.
+pub last-slice : {A : Type 0} (depth : A → ℕ) (τ : ℕ) (none : A) (z : List A) (from to : ℕ) → from < to → to ≤ length z
+    → lastDepth depth τ (slice from to z) ≡ depth (getD z (to - 1) none)
+last-slice depth τ none z from to h g =
+    let e : to ≡ to - 1 + 1 = omega arith in
+    ap (λ (k : ℕ). lastDepth depth τ (slice from k z)) e
+    ∙ ap (lastDepth depth τ) (slice-more from (to - 1) z none (omega arith) (omega arith))
+    ∙ lastDepth-append depth τ (slice from (to - 1) z) (getD z (to - 1) none ∷ [])
 
 -- The first k places are the first n entries es, and behind them those of other from one place up to i.
 pub record Appended (from i n k : ℕ) (es other : List Pair) (ds ps : List ℕ) : Type 0 where

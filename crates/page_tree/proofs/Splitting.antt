@@ -6,7 +6,7 @@ use Prim.Native.Nat.{ℕ, _+_, _≤_, _<_}
 use native.Mathlib.Omega.{arith}
 use lib.Dec.{leb}
 use lib.ListN.{length, length-append}
-use borrow.Author.Tests.{leb-true, leb-false}
+use borrow.Author.Tests.{leb-true, leb-false, le-leb, lt-leb}
 use Rattle.leaf_list.proofs.Depths.{closed-cons}
 use Rattle.page_tree.specs.Rows.{Closed}
 use Rattle.page_tree.specs.Cutting.{split}
@@ -77,6 +77,21 @@ split-shallowest {A} depth (x ∷ y ∷ z ∷ zs) n = step (leb (depth x) (s .0)
         }
 
 module _ {A : Type 0} (depth : A → ℕ) where
+  -- One thing more in front that is the shallowest: the split is behind it.
+  pub split-here : (x : A) (row : List A) → 2 ≤ length row → depth x ≤ split depth row .0 → split depth (x ∷ row) ≡ (depth x, x ∷ [], row)
+  unfolding split
+  split-here x [] l h = absurd (omega arith)
+  split-here x (y ∷ []) l h = absurd (omega arith)
+  split-here x (y ∷ z ∷ zs) l h = rw (le-leb (depth x) (split depth (y ∷ z ∷ zs) .0) h)
+
+  -- One thing more in front that is not: the split stays where it is.
+  pub split-on : (x : A) (row : List A) → 2 ≤ length row → split depth row .0 < depth x
+      → split depth (x ∷ row) ≡ (split depth row .0, x ∷ split depth row .1, split depth row .2)
+  unfolding split
+  split-on x [] l h = absurd (omega arith)
+  split-on x (y ∷ []) l h = absurd (omega arith)
+  split-on x (y ∷ z ∷ zs) l h = rw (lt-leb (depth x) (split depth (y ∷ z ∷ zs) .0) h)
+
   -- The two parts in order are the row.
   pub split-join : (row : List A) → split depth row .1 ++ split depth row .2 ≡ row
   unfolding split

@@ -1,6 +1,7 @@
 pub mod Rows
 pub mod Tree
 pub mod Cutting
+pub mod QuickCut
 pub mod Walk
 pub mod Finding
 pub mod OnPages

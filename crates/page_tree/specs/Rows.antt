@@ -35,6 +35,10 @@ module _ {A : Type 0} (depth : A → ℕ) where
   lastDepth τ [] = τ
   lastDepth τ (x ∷ xs) = lastDepth (depth x) xs
 
+  -- "the last depth is below all others"
+  abbrev pub LastBelow : List A → Type 0
+  LastBelow xs = Closed (lastDepth 0 xs) xs
+
   -- "In every page in use the last depth is below all others"; "A page in use has 1 to E entries".
   abbrev pub Page : ℕ → List A → Type 0
-  Page E xs = Closed (lastDepth 0 xs) xs × (length xs ≤ E)
+  Page E xs = LastBelow xs × (length xs ≤ E)

@@ -2,9 +2,9 @@
 ghost use mathlib.Core.Path.{_≡_};
 ghost use mathlib.Core.List.{[], _∷_, _++_};
 ghost use Prim.Native.Nat.{_+_, _-_, _≤_, _<_};
-ghost use lib.ListN.{length, getD, set};
-ghost use Rattle.page_tree.specs.Cutting.{split};
-ghost use Rattle.page_tree.specs.Row.{depthOf, rowOf, partOf, Holds, CutPre, CutPost, CutsPost};
+ghost use lib.ListN.{getD, set};
+ghost use Rattle.page_tree.specs.Rows.{LastBelow};
+ghost use Rattle.page_tree.specs.Row.{depthOf, rowOf, partOf, Holds, SplitPost, CutPre, CutPost, CutsPost};
 
 // What deletion asks of the entry before, on its way back to the left: nothing; to take a depth;
 // to go where it is a dummy deeper than a depth.
@@ -99,9 +99,9 @@ impl Row {
         r
     }
 
-    // The ends of the parts in which the row stands in pages of at most e entries.
+    // The ends of the parts in which the row, whose last depth is below all others, stands in pages of at most e entries.
     pub fn cuts(self, e: u8) -> Cuts
-        requires { ⌜ (2 ≤ e) × (1 ≤ self .count) × (self .count ≤ e + 64) ⌝ }
+        requires { ⌜ (2 ≤ e) × (1 ≤ self .count) × (self .count ≤ e + 64) × LastBelow depthOf (rowOf self) ⌝ }
         ensures { λ r. ⌜ CutsPost e self r ⌝ }
     {
         let n = self.count;
@@ -125,25 +125,44 @@ fn wide(x: u8) -> usize
     x as usize
 }
 
-// Past the first shallowest of the entries from one place up to another, the last left out of the choice.
-pub fn split_at(row: Row, from: usize, to: usize) -> usize
+// Where a row is cut, past the entry found, and how many entries the search tried.
+pub struct Cut {
+    pub at: usize,
+    pub tried: usize,
+}
+
+// Finds where the entries from one place up to another are cut: past the first whose depth is one above the last one's, where the search stops,
+// or else past the first shallowest, the last left out of the choice.
+pub fn split_at(row: Row, from: usize, to: usize) -> Cut
     requires { ⌜ (from + 2 ≤ to) × (to ≤ 319) ⌝ }
-    ensures { λ r. ⌜ r ≡ from + length (split depthOf (partOf row from to) .1) ⌝ }
+    ensures { λ r. ⌜ SplitPost row from to r ⌝ }
 {
-    let mut best = to - 2;
-    let mut i = best;
-    while from < i {
-        i -= 1;
-        if row.depths[i] <= row.depths[best] {
-            best = i;
+    let end = to - 1;
+    let above = wide(row.depths[end]) + 1;
+    let mut best = from;
+    let mut i = from;
+    while i < end {
+        let d = row.depths[i];
+        if wide(d) == above {
+            return Cut {
+                at: i + 1,
+                tried: i + 1 - from,
+            };
+        }
+        i += 1;
+        if d < row.depths[best] {
+            best = i - 1;
         }
     }
-    best + 1
+    Cut {
+        at: best + 1,
+        tried: end - from,
+    }
 }
 
 // The ends of the parts of the entries from one place up to another, behind the ends before.
 fn cut_part(row: Row, e: u8, from: usize, to: usize, before: Cuts) -> Cuts
-    requires { ⌜ CutPre e from to before ⌝ }
+    requires { ⌜ CutPre e row from to before ⌝ }
     ensures { λ r. ⌜ CutPost e row from to before r ⌝ }
 {
     if to - from <= wide(e) {
@@ -153,7 +172,7 @@ fn cut_part(row: Row, e: u8, from: usize, to: usize, before: Cuts) -> Cuts
         c.count = n + 1;
         return c;
     }
-    let m = split_at(row, from, to);
+    let m = split_at(row, from, to).at;
     let left = cut_part(row, e, from, m, before);
     cut_part(row, e, m, to, left)
 }

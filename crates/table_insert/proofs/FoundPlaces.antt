@@ -2,17 +2,15 @@
 use mathlib.Core.Path.{_≡_, sym, ap, subst, _∙_}
 use mathlib.Core.Logic.{_⊎_, inl, inr}
 use mathlib.Core.List.{List, [], _∷_, _++_, map, map-append, append-assoc}
-use Prim.Native.Nat.{ℕ, zero, suc, _+_, _≤_, _<_}
+use Prim.Native.Nat.{ℕ, zero, suc, _+_, _<_}
 use native.Mathlib.Omega.{arith}
 use lib.ListN.{length, getD, take, drop}
 use lib.Seq.{split-at}
 use Rattle.leaf_list.proofs.Lists.{all-at}
-use Rattle.leaf_list.proofs.Depths.{closed-cons}
 use Rattle.page_tree.specs.Rows.{All, Closed, lastDepth}
 use Rattle.page_tree.specs.OnPages.{replaceIn}
 use Rattle.page_tree.specs.Row.{depthOf}
 use Rattle.page_tree.proofs.ListLaws.{all-left}
-use Rattle.page_tree.proofs.ClosedRows.{closed-replace}
 use Rattle.page_tree.proofs.RowMaps.{lastDepth-map, positionsAfter-map, passes-map}
 use Rattle.page_tree.proofs.WalkPlaces.{positionsAfter, Stops, replaceIn-at}
 use Rattle.index_table.specs.Layout.{Ref}
@@ -22,21 +20,6 @@ use Rattle.table_search.specs.Places.{leftFrom, Stopped}
 -- ---- closed rows
 
 module _ {A : Type 0} (d : A → ℕ) where
-  closed-uncons : (c : ℕ) (x : A) (l : List A) → 1 ≤ length l → Closed d c (x ∷ l) → (c < d x) × Closed d c l
-  closed-uncons c x [] h g = absurd (omega arith)
-  closed-uncons c x (y ∷ l) h g = g
-
-  -- A row in the place of a thing whose depth closes it.
-  pub closed-splice : (c : ℕ) (xs : List A) (y : A) (ys zs : List A) → Closed d c (xs ++ y ∷ zs) → Closed d (d y) ys → Closed d c (xs ++ ys ++ zs)
-  closed-splice c [] y ys zs h g = closed-replace d c y ys zs h g
-  closed-splice c (x ∷ xs) y ys zs h g =
-      let u = closed-uncons c x (xs ++ y ∷ zs) (some xs) h in
-      closed-cons d c x (xs ++ ys ++ zs) (u .0) (closed-splice c xs y ys zs (u .1) g)
-    where
-      some : (xs : List A) → 1 ≤ length (xs ++ y ∷ zs)
-      some [] = omega arith
-      some (x ∷ xs) = omega arith
-
   -- The last thing of a closed row closes it.
   pub closed-end : (c : ℕ) (xs : List A) (i : ℕ) (none : A) → Closed d c xs → suc i ≡ length xs → d (getD xs i none) ≡ c
   closed-end c [] i none h e = absurd h

@@ -17,7 +17,7 @@ use Rattle.page_tree.specs.Numbered.{Numbered, numberedDepth, under, insertNumb
 use Rattle.page_tree.specs.Row.{depthOf, rowOf, Holds}
 use Rattle.page_tree.specs.declared.Row.{Row}
 use Rattle.page_tree.proofs.ListLaws.{all-left, all-right, sum-append}
-use Rattle.page_tree.proofs.ClosedRows.{closed-nonempty, closed-last}
+use Rattle.page_tree.proofs.ClosedRows.{closed-nonempty, closed-last, closed-below, closed-splice}
 use Rattle.page_tree.proofs.CuttingLaws.{cut-fits}
 use Rattle.page_tree.proofs.RowMaps.{parts-map}
 use Rattle.index_table.specs.Layout.{Layout, layoutOf, Ref, pageStart, pageBytes, refsOf, Fitting}
@@ -37,7 +37,7 @@ use Rattle.table_insert.specs.Inserting.{Replaced}
 use Rattle.table_insert.proofs.PlacedRows.{each-length}
 use Rattle.table_insert.proofs.PlacedTrees.{numbered-depths, placed-closed, placed-fits, placed-stands, placed-numbered}
 use Rattle.table_insert.proofs.NumberedInsertion.{length-under, insertNumbered-length, insertNumbered-ext}
-use Rattle.table_insert.proofs.FoundPlaces.{closed-splice, found-parted, found-before, found-replaced}
+use Rattle.table_insert.proofs.FoundPlaces.{found-parted, found-before, found-replaced}
 
 -- An own page in use counts once.
 pub owned-used : (L : Layout) (b : List ℕ) (own q : ℕ) → inUse (pagesAt L b own) ≡ 1 → owned L b own q ≡ same own q
@@ -319,6 +319,7 @@ module _ {b : List ℕ} {e P n page w key position τ : ℕ} (new : Replacement)
             some = omega (arith, row-count, h .long, closed-nonempty depthOf (y .0) (rowOf news) (h .closed));
             small = omega (arith, row-count, h .few, stop .inside, pre .sound .0 .few);
             fitting = rw row-is fits-row;
+            closed = rw row-is (closed-below depthOf (pre .closing) row closed-row);
             enough = rw row-is (omega (arith, used₁, parts-count, h .total, found-pages, enough));
           }
 

@@ -133,6 +133,7 @@ module _ {e P n : ℕ} {b : List ℕ} {row : Row} (pre : GrowPre e P n b row) (m
         some = omega arith;
         small = omega (arith, pre .few, pre .entries-low);
         fitting = pre .fitting;
+        closed = pre .closed;
         enough = omega (arith, room);
       }
 

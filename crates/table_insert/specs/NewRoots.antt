@@ -3,7 +3,7 @@ use mathlib.Core.Path.{_≡_}
 use mathlib.Core.List.{List, [], _∷_, map}
 use Prim.Native.Nat.{ℕ, suc, _+_, _≤_}
 use lib.ListN.{length}
-use Rattle.page_tree.specs.Rows.{All, sum, Closed, lastDepth}
+use Rattle.page_tree.specs.Rows.{All, sum, lastDepth, LastBelow}
 use Rattle.page_tree.specs.Tree.{Node, pageCount, pagesOf}
 use Rattle.page_tree.specs.OnPages.{grown}
 use Rattle.page_tree.specs.Numbered.{grownNumbered}
@@ -26,7 +26,7 @@ pub record GrowPre (e P n : ℕ) (b : List ℕ) (row : Row) : Type 0 where
   pub long : length (rowOf row) ≡ row .count
   pub few : row .count ≤ 65
   pub fitting : Fitting 2 (rowOf row)
-  pub closed : Closed depthOf (lastDepth depthOf 0 (rowOf row)) (rowOf row)
+  pub closed : LastBelow depthOf (rowOf row)
   pub sound : All (SoundBelow (layoutOf e) P (suc n) b) (rowOf row)
   pub own : Owned (layoutOf e) b (metAll (suc n) (pagesAt (layoutOf e) b) (rowOf row))
   pub enough :

@@ -3,7 +3,7 @@ use mathlib.Core.Path.{_≡_}
 use mathlib.Core.List.{List, [], _∷_, map}
 use Prim.Native.Nat.{ℕ, _+_, _≤_, _<_, min}
 use lib.ListN.{length, take}
-use Rattle.page_tree.specs.Rows.{All, sum, lastDepth}
+use Rattle.page_tree.specs.Rows.{All, sum, lastDepth, LastBelow}
 use Rattle.page_tree.specs.Cutting.{parts}
 use Rattle.page_tree.specs.Row.{depthOf, rowOf, partOf}
 use Rattle.page_tree.specs.declared.Row.{Row}
@@ -46,7 +46,7 @@ pub record Placed (L : Layout) (P n : ℕ) (b : List ℕ) (own : ℕ) (b′ : Li
   pub free : All (λ q. pagesAt L b q ≡ []) fresh
   pub total : usedPages P (pagesAt L b′) + inUse (pagesAt L b own) ≡ usedPages P (pagesAt L b) + length rows
 
--- What placing a row asks: the own page is among the P, and there are free pages for all parts but one.
+-- What placing a row asks: its last depth is below all others, the own page is among the P, and there are free pages for all parts but one.
 pub record PlacePre (e P : ℕ) (b : List ℕ) (own : ℕ) (row : Row) : Type 0 where
   pub entries-low : 2 ≤ e
   pub table : pageStart (layoutOf e) P ≤ length b
@@ -54,6 +54,7 @@ pub record PlacePre (e P : ℕ) (b : List ℕ) (own : ℕ) (row : Row) : Type 0 
   pub some : 1 ≤ row .count
   pub small : row .count ≤ e + 64
   pub fitting : Fitting 2 (rowOf row)
+  pub closed : LastBelow depthOf (rowOf row)
   pub enough : usedPages P (pagesAt (layoutOf e) b) + length (parts depthOf e (rowOf row)) ≤ P + inUse (pagesAt (layoutOf e) b own)
 
 -- The entries of the pages in which the parts of the row stand.

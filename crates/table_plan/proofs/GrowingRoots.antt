@@ -6,18 +6,20 @@ use native.Mathlib.Omega.{arith}
 use native.Mathlib.Numerals.{add-one}
 use lib.ListN.{length}
 use Rattle.page_tree.specs.Row.{depthOf, rowOf}
-use Rattle.page_tree.specs.Rows.{sum}
+use Rattle.page_tree.specs.Rows.{sum, Closed, lastDepth}
 use Rattle.page_tree.specs.Tree.{Node, depth, pageCount, Tree, pagesOf}
+use Rattle.page_tree.specs.Cutting.{parts}
 use Rattle.page_tree.specs.OnPages.{grown}
 use Rattle.page_tree.specs.declared.Row.{Row}
 use Rattle.page_tree.proofs.ListLaws.{sum-concat}
-use Rattle.page_tree.proofs.CuttingLaws.{cut-join}
+use Rattle.page_tree.proofs.ClosedRows.{closed-below}
+use Rattle.page_tree.proofs.CuttingLaws.{cut-join, parts-cut}
 use Rattle.page_tree.proofs.Growing.{rootParts, parts-fewer, grown-again, grow-one}
 use Rattle.page_tree.proofs.RowLaws.{Full, length-row}
 use Rattle.table_plan.specs.declared.Outcome.{Outcome}
 use Rattle.table_plan.specs.Plans.{LastDepths}
 use Rattle.table_plan.specs.Outcomes.{RootsPre, Grown, RootsPost}
-use Rattle.table_plan.proofs.SameDepths.{same-count, same-lasts, same-parts}
+use Rattle.table_plan.proofs.SameDepths.{same-count, same-closed, same-lasts, same-parts}
 
 -- One part is the root.
 one-root : (e level : ℕ) (xs : List (Node (suc level))) → length xs ≡ 1 → Grown e level xs (record { level = level; fresh = 0 })
@@ -63,9 +65,22 @@ module _ {e level : ℕ} {row : Row} (full : Full (row .depths) (row .pointers))
     pub roots-fewer : up .count < row .count
     roots-fewer = omega (arith, last .count, parts-fewer depthOf e (rowOf row) (pre .two) (omega (arith, counted)), counted)
 
+    abbrev c : ℕ
+    c = lastDepth depthOf 0 (rowOf row)
+
+    -- closed as they are,
+    closed-up : Closed (lastDepth depthOf 0) c (parts depthOf e (rowOf row))
+    closed-up = parts-cut depthOf e c (rowOf row) (omega (arith, pre .two)) (pre .closed) .closed
+
     -- and so on above them.
     pub roots-next : RootsPre e (level + 1) up
-    roots-next = record { two = pre .two; some = last .some; few = last .few; low = omega (arith, roots-fewer, pre .low) }
+    roots-next = record {
+      two = pre .two;
+      some = last .some;
+      few = last .few;
+      low = omega (arith, roots-fewer, pre .low);
+      closed = closed-below depthOf c (rowOf up) (same-closed depthOf (lastDepth depthOf 0) (rowOf up) (parts depthOf e (rowOf row)) (last .depths) c closed-up);
+    }
 
     pub roots-small : (r : Outcome) → RootsPost e (level + 1) up r → up .count + r .fresh ≤ 65 + 4225
     roots-small r post = omega (arith, post .small, last .few)

@@ -21,6 +21,7 @@ use Rattle.table_plan.specs.declared.Plan.{Plan}
 use Rattle.table_plan.specs.declared.Outcome.{Outcome}
 use Rattle.table_plan.specs.Plans.{PlanPre, PlanPost, pageParts}
 use Rattle.table_plan.specs.Outcomes.{RootsPre, Grown, RootsPost, tableTree, treeWith, OutcomePre, OutcomePost}
+use Rattle.table_plan.proofs.PlannedPages.{planned-closed}
 
 module _ {b : List ℕ} {e P level root w key : ℕ} {news : Row} (pre : OutcomePre b e P level root w key news) where
   abbrev rootNode : Node (suc level)
@@ -58,6 +59,7 @@ module _ {b : List ℕ} {e P level root w key : ℕ} {news : Row} (pre : Outcome
         some = planned .some;
         few = planned .few;
         low = omega (arith, planned .few, pre .tree .pages .level-high);
+        closed = planned-closed root-plan part planned;
       }
 
       module _ (r : Outcome) (roots : RootsPost e n (part .row) r) where

@@ -14,13 +14,13 @@ use Rattle.leaf_list.specs.Search.{positions}
 use Rattle.leaf_list.proofs.Lists.{all-at}
 use Rattle.leaf_list.proofs.Positions.{Rising, positions-beyond, positions-rise}
 use Rattle.page_tree.specs.Row.{depthOf, places, rowOf}
-use Rattle.page_tree.specs.Rows.{All, Closed, lastDepth}
+use Rattle.page_tree.specs.Rows.{All, Closed, lastDepth, LastBelow}
 use Rattle.page_tree.specs.Tree.{Node, depth, Sound}
 use Rattle.page_tree.specs.Finding.{Found, findBelow}
 use Rattle.page_tree.specs.OnPages.{Replacement, replaceIn, insertBelow, pagesBelow}
 use Rattle.page_tree.specs.declared.Row.{Row}
 use Rattle.page_tree.proofs.ListLaws.{all-left, all-right, all-unit}
-use Rattle.page_tree.proofs.ClosedRows.{closed-last, closed-nonempty}
+use Rattle.page_tree.proofs.ClosedRows.{closed-last, closed-below, closed-nonempty}
 use Rattle.page_tree.proofs.RowMaps.{closed-map, lastDepth-map, positionsAfter-map, passes-map}
 use Rattle.page_tree.proofs.WalkLaws.{first-beyond}
 use Rattle.page_tree.proofs.WalkPlaces.{positionsAfter, Stops, replaceIn-at}
@@ -37,7 +37,7 @@ use Rattle.table_search.proofs.Stops.{read-entry}
 use Rattle.table_search.proofs.Descents.{descend-within, descend-walk, descend-step, descend-child}
 use Rattle.table_plan.specs.declared.Plan.{Plan}
 use Rattle.table_plan.specs.Plans.{PartsPre, PartsPost, PlanPre, PlanPost, freshPages}
-use Rattle.table_plan.proofs.SameDepths.{same-last, same-lasts, same-parts}
+use Rattle.table_plan.proofs.SameDepths.{same-closed, same-lasts, same-parts}
 use Rattle.table_plan.proofs.SplicedRows.{last-at}
 
 -- The positions that are left rise.
@@ -107,6 +107,14 @@ module _ {b : List ℕ} {e P n page w key position trail : ℕ} {news : Row} (pr
       (rw (sound-depth 65535 (layoutOf e) P b (suc n) x (pre .place .sound)) (first-beyond (pre .place .closing) position (later w key position) (pre .place .before) (left-rising w key position)))
       (news-fit w news (findBelow (suc n) bs trail (map node refs)) (pre .few) (pre .closed))
 
+  -- In the row of their depths the last is below all others.
+  pub planned-closed : (r : Plan) → PlanPost b e n page w key position trail news r → LastBelow depthOf (rowOf (r .row))
+  unfolding nodeAt
+  planned-closed r post =
+      let c : ℕ = depth (suc n) (map node refs) in
+      closed-below depthOf c (rowOf (r .row))
+      (same-closed depthOf (depth (suc n)) (rowOf (r .row)) (insertBelow e new (suc n) bs trail (map node refs)) (post .depths) c (whole .closed))
+
   module _ (s : Spot) (stop : Stopped w key position trail refs s) where
     abbrev y : Ref
     y = getD refs (s .at) (0, 0)
@@ -172,16 +180,15 @@ module _ {b : List ℕ} {e P n page w key position trail : ℕ} {news : Row} (pr
     found-closed : Closed depthOf (entryDepth (findBelow n bs′ (s .trail) (node y) .2)) (rowOf news)
     found-closed = subst (λ (f : Found). Closed depthOf (entryDepth (f .2)) (rowOf news)) (descend-step (pre .place) s stop) (pre .closed)
 
-    -- What will stand in the place of the entry found ends in its depth.
-    found-last : lastDepth (depth n) 0 found ≡ y .0
-    found-last =
-        closed-last (depth n) (depth n (node y)) 0 found
+    -- What will stand in the place of the entry found ends in its depth, which is below all others.
+    found-closes : Closed (depth n) (y .0) found
+    found-closes =
+        rw y-depth at
         (insertBelow-inPlace e w new (omega (arith, pre .two)) n bs′ (s .trail) (node y)
         (sound-node 65535 (layoutOf e) P b n y (all-at (SoundBelow (layoutOf e) P n b) refs (s .at) (0, 0) (stop .inside) (pre .place .sound .2)))
         (left-rising w key (s .position))
         (rw y-depth (first-beyond (y .0) (s .position) (later w key (s .position)) y-before (left-rising w key (s .position))))
         (news-fit w news (findBelow n bs′ (s .trail) (node y)) (pre .few) found-closed) .closed)
-        ∙ y-depth
 
     module _ (row : Row) (fresh : ℕ) (below : Below e n news bs′ (s .trail) (node y) row fresh) where
       -- The row may stand in the place of the entry found.
@@ -193,7 +200,8 @@ module _ {b : List ℕ} {e P n page w key position trail : ℕ} {news : Row} (pr
         inside = stop .inside;
         some = below .some;
         room = below .few;
-        last = same-last depthOf (depth n) (rowOf row) found (below .depths) 0 ∙ found-last;
+        closed = same-closed depthOf (depth n) (rowOf row) found (below .depths) (y .0) found-closes;
+        page-closed = closed-below depthOf (pre .place .closing) refs (pre .place .sound .1);
         small = omega (arith, below .small);
       }
 

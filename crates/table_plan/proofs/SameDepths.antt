@@ -1,11 +1,11 @@
 -- The last depths of the parts of a row depend on the row's depths alone. Assumes nothing.
-use mathlib.Core.Path.{_≡_, refl, sym, ap, ap₂, _∙_}
+use mathlib.Core.Path.{_≡_, refl, sym, ap, ap₂, subst, _∙_}
 use mathlib.Core.List.{List, [], _∷_, map}
 use Prim.Native.Nat.{ℕ}
 use lib.ListN.{length, length-map}
-use Rattle.page_tree.specs.Rows.{All, lastDepth}
+use Rattle.page_tree.specs.Rows.{All, Closed, lastDepth}
 use Rattle.page_tree.specs.Cutting.{parts}
-use Rattle.page_tree.proofs.RowMaps.{lastDepth-map, parts-map}
+use Rattle.page_tree.proofs.RowMaps.{lastDepth-map, closed-map, closed-unmap, parts-map}
 
 -- A depth as a thing that has it.
 abbrev itself : ℕ → ℕ
@@ -35,9 +35,10 @@ module _ {A B : Type 0} (d : A → ℕ) (d′ : B → ℕ) (xs : List A) (ys : L
   pub same-count : length xs ≡ length ys
   same-count = sym (length-map xs d) ∙ ap length same ∙ length-map ys d′
 
-  -- the same last depth,
-  pub same-last : (τ : ℕ) → lastDepth d τ xs ≡ lastDepth d′ τ ys
-  same-last τ = sym (last-depths d τ xs) ∙ ap (lastDepth itself τ) same ∙ last-depths d′ τ ys
+  -- closed alike,
+  pub same-closed : (c : ℕ) → Closed d′ c ys → Closed d c xs
+  same-closed c h =
+      closed-unmap d itself d c xs (all-same d xs) (subst (Closed itself c) (sym same) (closed-map d′ itself d′ c ys (all-same d′ ys) h))
 
   -- the same last depths of their parts,
   pub same-lasts : (E : ℕ) → map (lastDepth d 0) (parts d E xs) ≡ map (lastDepth d′ 0) (parts d′ E ys)

@@ -1,15 +1,15 @@
 -- A page's row with others in the place of an entry: its last depth, and the plan of its parts. Assumes nothing.
-use mathlib.Core.Path.{_≡_, refl, sym, ap, _∙_}
+use mathlib.Core.Path.{_≡_, refl, sym, ap, subst, _∙_}
 use mathlib.Core.List.{List, [], _∷_, _++_, map}
 use Prim.Native.Nat.{ℕ, zero, suc, _+_, _-_, _≤_, _<_}
 use native.Mathlib.Omega.{arith}
 use lib.ListN.{length, getD, take, drop, length-append, length-take, length-drop}
 use lib.Seq.{split-at}
 use Rattle.page_tree.specs.Row.{Pair, depthOf, rowOf, Holds}
-use Rattle.page_tree.specs.Rows.{lastDepth}
+use Rattle.page_tree.specs.Rows.{Closed, lastDepth, LastBelow}
 use Rattle.page_tree.specs.Cutting.{parts}
 use Rattle.page_tree.specs.declared.Row.{Row}
-use Rattle.page_tree.proofs.ClosedRows.{lastDepth-append}
+use Rattle.page_tree.proofs.ClosedRows.{lastDepth-append, closed-last, closed-below, closed-splice}
 use Rattle.page_tree.proofs.CuttingLaws.{cut-fits}
 use Rattle.page_tree.proofs.RowLaws.{Full, length-row}
 use Rattle.index_table.specs.Layout.{Ref, layoutOf, pageBytes, countOf, refAt}
@@ -78,7 +78,7 @@ module _ {b : List ℕ} {e page at below : ℕ} {row : Row} (full : Full (row .d
         let end : suc (n - 1) ≡ length refs = omega (arith, entries-read, pre .inside) in
         let last : d ≡ lastDepth depthOf 0 spliced =
         is ∙ ap (λ (x : Ref). x .0) (read-entry (layoutOf e) b page (n - 1) (omega arith)) ∙ sym (last-at 0 refs (n - 1) end)
-        ∙ sym (last-spliced at (rowOf row) refs (pre .inside) 0 (omega (arith, counted, pre .some)) (pre .last)) in
+        ∙ sym (last-spliced at (rowOf row) refs (pre .inside) 0 (omega (arith, counted, pre .some)) (closed-last depthOf (getD refs at (0, 0) .0) 0 (rowOf row) (pre .closed))) in
         record {
           count = made .count ∙ omega (arith, none .count, ap length one);
           depths = ap (map depthOf) (made .entries ∙ ap (λ (xs : List Pair). xs ++ (d, 0) ∷ []) (none .entries)) ∙ ap (λ (m : ℕ). m ∷ []) last
@@ -86,17 +86,24 @@ module _ {b : List ℕ} {e page at below : ℕ} {row : Row} (full : Full (row .d
           fresh = omega (arith, ap length one);
         }
 
-  -- The row can be made,
+  -- The row closes as the page does.
+  closed-row : Closed depthOf (lastDepth depthOf 0 refs) spliced
+  closed-row =
+      closed-splice depthOf (lastDepth depthOf 0 refs) (take at refs) (getD refs at (0, 0)) (rowOf row) (drop (suc at) refs)
+      (subst (Closed depthOf (lastDepth depthOf 0 refs)) (split-at refs at (0, 0) (pre .inside)) (pre .page-closed)) (pre .closed)
+
+  -- It can be made,
   pub can-splice : Spliceable e b page at row
   can-splice = record { within = pre .within; few = pre .few; inside = pre .inside; room = pre .room }
 
   module _ (made : Row) (holds : Holds made (at + row .count + (length refs - suc at)) spliced) where
     -- and cut.
-    pub can-cut : (2 ≤ e) × (1 ≤ made .count) × (made .count ≤ e + 64)
+    pub can-cut : (2 ≤ e) × (1 ≤ made .count) × (made .count ≤ e + 64) × LastBelow depthOf (rowOf made)
     can-cut = (
       pre .two,
       omega (arith, holds .count, pre .some),
       omega (arith, holds .count, pre .room, pre .inside, pre .few),
+      rw (holds .entries) (closed-below depthOf (lastDepth depthOf 0 refs) spliced closed-row),
     )
 
     -- One page more for each part but the first.

@@ -6,7 +6,7 @@ use Rattle.leaf_list.specs.Keys.{bits}
 use Rattle.leaf_list.specs.Entries.{depthOf as entryDepth}
 use Rattle.leaf_list.specs.Search.{positions}
 use Rattle.page_tree.specs.Row.{depthOf, rowOf}
-use Rattle.page_tree.specs.Rows.{Closed, sum}
+use Rattle.page_tree.specs.Rows.{Closed, LastBelow, sum}
 use Rattle.page_tree.specs.Tree.{Node, depth, pageCount, Tree, pagesOf}
 use Rattle.page_tree.specs.Finding.{findIn}
 use Rattle.page_tree.specs.OnPages.{grown, insertTree}
@@ -17,12 +17,13 @@ use Rattle.index_write.specs.Standing.{TreeTable}
 use Rattle.index_write.specs.Storing.{newLeaves}
 use Rattle.table_plan.specs.declared.Outcome.{Outcome}
 
--- The parts of a root of a level.
+-- The parts of a root of a level; their last depth is below all others.
 pub record RootsPre (e level : ℕ) (row : Row) : Type 0 where
   pub two : 2 ≤ e
   pub some : 1 ≤ row .count
   pub few : row .count ≤ 65
   pub low : level + row .count ≤ 1000
+  pub closed : LastBelow depthOf (rowOf row)
 
 -- The tree that grows above parts xs of a root, whichever they are.
 pub record Grown (e level : ℕ) (xs : List (Node (suc level))) (r : Outcome) : Type 0 where

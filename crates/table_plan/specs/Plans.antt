@@ -5,7 +5,7 @@ use Prim.Native.Nat.{ℕ, suc, _+_, _*_, _-_, _≤_, _<_}
 use lib.ListN.{length, getD}
 use Rattle.leaf_list.specs.Entries.{depthOf as entryDepth}
 use Rattle.page_tree.specs.Row.{depthOf, rowOf}
-use Rattle.page_tree.specs.Rows.{Closed, lastDepth}
+use Rattle.page_tree.specs.Rows.{Closed, lastDepth, LastBelow}
 use Rattle.page_tree.specs.Cutting.{parts}
 use Rattle.page_tree.specs.Tree.{Node, depth}
 use Rattle.page_tree.specs.Finding.{findBelow}
@@ -24,7 +24,8 @@ pub record LastDepths (e : ℕ) (row r : Row) : Type 0 where
   pub some : 1 ≤ r .count
   pub few : r .count ≤ 65
 
--- A row that may stand in the place of entry at of a page: it ends in that entry's depth. Its pages take below pages more.
+-- A row that may stand in the place of entry at of a page: it ends in that entry's depth, which is below all its others. Its pages take below pages
+-- more.
 pub record PartsPre (b : List ℕ) (e page at : ℕ) (row : Row) (below : ℕ) : Type 0 where
   pub two : 2 ≤ e
   pub within : Within (layoutOf e) b page
@@ -32,7 +33,8 @@ pub record PartsPre (b : List ℕ) (e page at : ℕ) (row : Row) (below : ℕ) :
   pub inside : at < length (pagesAt (layoutOf e) b page)
   pub some : 1 ≤ row .count
   pub room : row .count ≤ 65
-  pub last : lastDepth depthOf 0 (rowOf row) ≡ getD (pagesAt (layoutOf e) b page) at (0, 0) .0
+  pub closed : Closed depthOf (getD (pagesAt (layoutOf e) b page) at (0, 0) .0) (rowOf row)
+  pub page-closed : LastBelow depthOf (pagesAt (layoutOf e) b page)
   pub small : below ≤ 16384
 
 -- The plan of a page whose row was: the last depths of its parts, and one page more for each part but the first.

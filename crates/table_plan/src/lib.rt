@@ -2,7 +2,8 @@
 ghost use mathlib.Core.Path.{_≡_};
 ghost use Prim.Native.Nat.{_+_, _≤_};
 ghost use lib.ListN.{length};
-ghost use Rattle.page_tree.specs.Row.{rowOf};
+ghost use Rattle.page_tree.specs.Rows.{LastBelow};
+ghost use Rattle.page_tree.specs.Row.{depthOf, rowOf};
 ghost use Rattle.index_table.specs.Layout.{layoutOf, pageStart};
 ghost use Rattle.index_table.specs.Pages.{pagesAt, usedPages};
 ghost use Rattle.index_write.specs.Storing.{splicedAt};
@@ -32,7 +33,7 @@ pub struct Outcome {
 
 // The last depth of each part in which a row stands in pages of at most e entries.
 fn last_depths(row: Row, e: u8) -> Row
-    requires { ⌜ (2 ≤ e) × (1 ≤ row .count) × (row .count ≤ e + 64) ⌝ }
+    requires { ⌜ (2 ≤ e) × (1 ≤ row .count) × (row .count ≤ e + 64) × LastBelow depthOf (rowOf row) ⌝ }
     ensures { λ r. ⌜ LastDepths e row r ⌝ }
 {
     let cuts = row.cuts(e);
