@@ -1,10 +1,11 @@
 -- The quick search of a part of a row, entry by entry from the left (02, "Cutting a page more quickly"). Assumes nothing.
 use mathlib.Core.Path.{_≡_, refl, ap, sym, subst, _∙_}
-use mathlib.Core.Logic.{_≢_}
+use mathlib.Core.Logic.{_≢_, _⊎_, inl, inr}
 use mathlib.Core.Bool.{Bool, true, false, cond}
 use mathlib.Core.List.{List, [], _∷_, zip}
 use Prim.Native.Nat.{ℕ, suc, _+_, _-_, _≤_, _<_}
 use native.Mathlib.Omega.{arith}
+use native.Mathlib.Numerals.{add-one}
 use lib.Dec.{leb, ltb}
 use lib.ListN.{length, getD}
 use lib.Seq.{slice, slice-cons, slice-empty, length-slice}
@@ -80,6 +81,10 @@ module _ {A : Type 0} (depth : A → ℕ) where
           let k = leb-false (depth x) (split depth row .0) f in
           rw (split-on depth x row (omega arith) k, on, lt-ltb (split depth row .0) (depth x) k) (omega arith)
 
+  -- The place and the number of entries tried are those of the definition.
+  abbrev pub Answer : ℕ → ℕ → List A → ℕ → ℕ → Type 0
+  Answer from to z at n = (at ≡ from + quickPlace depth (slice from to z)) × (n ≡ tried depth (lastDepth depth 0 (slice from to z)) (slice from to z))
+
   -- The search of z from `from` up to `to` has come to i, and best is the first shallowest so far; c is the last depth.
   pub record Trying (none : A) (z : List A) (from to c i best : ℕ) : Type 0 where
     pub low : from ≤ i
@@ -123,6 +128,7 @@ module _ {A : Type 0} (depth : A → ℕ) where
       trying-met e = (h .met ∙ rw (two, eq-eqb (depth (getD z i none)) (suc c) e) refl, h .count ∙ rw (two, eq-eqb (depth (getD z i none)) (suc c) e) refl)
 
       module _ (far : depth (getD z i none) ≢ suc c) where
+        -- It does not stop: what is left is searched.
         next-met : meets depth c (slice from to z) ≡ meets depth c (slice (suc i) to z)
         unfolding meets
         next-met = h .met ∙ rw (two, one, ne-eqb (depth (getD z i none)) (suc c) far) refl
@@ -170,7 +176,7 @@ module _ {A : Type 0} (depth : A → ℕ) where
 
     -- What the search gives, where it stops,
     pub quick-met : (c i best : ℕ) → c ≡ depth (getD z (to - 1) none) → (h : Trying none z from to c i best) → i + 1 < to → depth (getD z i none) ≡ suc c
-        → (i + 1 ≡ from + quickPlace depth (slice from to z)) × (i + 1 - from ≡ tried depth (lastDepth depth 0 (slice from to z)) (slice from to z))
+        → Answer from to z (i + 1) (i + 1 - from)
     unfolding quickPlace
     quick-met c i best e h inside m =
         let l : lastDepth depth 0 (slice from to z) ≡ c = last-slice depth 0 none z from to (omega (arith, h .low)) (h .within) ∙ sym e in
@@ -179,7 +185,7 @@ module _ {A : Type 0} (depth : A → ℕ) where
 
     -- and where it does not.
     pub quick-all : (c i best : ℕ) → c ≡ depth (getD z (to - 1) none) → (h : Trying none z from to c i best) → i + 1 ≡ to
-        → (best + 1 ≡ from + quickPlace depth (slice from to z)) × (to - 1 - from ≡ tried depth (lastDepth depth 0 (slice from to z)) (slice from to z))
+        → Answer from to z (best + 1) (to - 1 - from)
     unfolding quickPlace
     quick-all c i best e h a =
         let l : lastDepth depth 0 (slice from to z) ≡ c = last-slice depth 0 none z from to (omega (arith, h .low, h .high)) (h .within) ∙ sym e in
@@ -197,36 +203,33 @@ module _ (ds ps : List ℕ) (full : Full ds ps) (from to : ℕ) where
   depth-at : to ≤ 319 → (k : ℕ) → k < to → depthOf (getD (zip ds ps) k (0, 0)) ≡ getD ds k 0
   depth-at h k b = ap depthOf (place-at ds ps full k (omega arith))
 
+  -- At the first entry.
   pub row-begun : from + 2 ≤ to → to ≤ 319 → TryingRow ds ps from to from from
   row-begun h g = trying-begun depthOf (0, 0) (zip ds ps) from to (getD ds (to - 1) 0) h (omega (arith, length-zip ds ps full))
 
   module _ (high : to ≤ 319) (i best a d : ℕ) (h : TryingRow ds ps from to i best) (inside : i < to - 1) (a-is : a ≡ getD ds (to - 1) 0 + 1) (d-is : d ≡ getD ds i 0) where
+    -- The depth tried, and the best.
     here : depthOf (getD (zip ds ps) i (0, 0)) ≡ d
     here = depth-at high i (omega arith) ∙ sym d-is
 
     there : depthOf (getD (zip ds ps) best (0, 0)) ≡ getD ds best 0
     there = depth-at high best (omega (arith, h .best-high))
 
-    pub row-better : d ≢ a → d < getD ds best 0 → TryingRow ds ps from to (i + 1) (i + 1 - 1)
-    row-better n l =
-        let p : suc i ≡ i + 1 = omega arith in
-        let q : i ≡ i + 1 - 1 = omega arith in
-        subst (λ (k : ℕ). TryingRow ds ps from to (i + 1) k) q
-        (subst (λ (k : ℕ). TryingRow ds ps from to k i) p
-        (trying-better depthOf (0, 0) (zip ds ps) from to (getD ds (to - 1) 0) i best h (omega arith) (λ e. n (omega (arith, e, here, a-is))) (omega (arith, here, there))))
+    -- Tried, and the search goes on: the best is this one where it is shallower, and else as before.
+    pub row-next : d ≢ a → (best′ : ℕ) → ((d < getD ds best 0) × (best′ ≡ i)) ⊎ ((getD ds best 0 ≤ d) × (best′ ≡ best)) → TryingRow ds ps from to (i + 1) best′
+    row-next n best′ (inl w) =
+        rw (add-one i, w .1)
+        (trying-better depthOf (0, 0) (zip ds ps) from to (getD ds (to - 1) 0) i best h (omega arith) (λ e. n (omega (arith, e, here, a-is))) (omega (arith, here, there, w .0)))
+    row-next n best′ (inr w) =
+        rw (add-one i, w .1)
+        (trying-on depthOf (0, 0) (zip ds ps) from to (getD ds (to - 1) 0) i best h (omega arith) (λ e. n (omega (arith, e, here, a-is))) (omega (arith, here, there, w .0)))
 
-    pub row-on : d ≢ a → getD ds best 0 ≤ d → TryingRow ds ps from to (i + 1) best
-    row-on n l =
-        let p : suc i ≡ i + 1 = omega arith in
-        subst (λ (k : ℕ). TryingRow ds ps from to k best) p
-        (trying-on depthOf (0, 0) (zip ds ps) from to (getD ds (to - 1) 0) i best h (omega arith) (λ e. n (omega (arith, e, here, a-is))) (omega (arith, here, there)))
-
-    pub row-met : d ≡ a → (i + 1 ≡ from + quickPlace depthOf (slice from to (zip ds ps)))
-        × (i + 1 - from ≡ tried depthOf (lastDepth depthOf 0 (slice from to (zip ds ps))) (slice from to (zip ds ps)))
+    -- Tried, and the search stops.
+    pub row-met : d ≡ a → Answer depthOf from to (zip ds ps) (i + 1) (i + 1 - from)
     row-met m =
         quick-met depthOf (0, 0) (zip ds ps) from to (getD ds (to - 1) 0) i best (sym (depth-at high (to - 1) (omega arith))) h (omega arith) (omega (arith, here, a-is, m))
 
-  pub row-all : to ≤ 319 → (i best : ℕ) → TryingRow ds ps from to i best → to - 1 ≤ i → (best + 1 ≡ from + quickPlace depthOf (slice from to (zip ds ps)))
-      × (to - 1 - from ≡ tried depthOf (lastDepth depthOf 0 (slice from to (zip ds ps))) (slice from to (zip ds ps)))
+  -- All but the last were tried.
+  pub row-all : to ≤ 319 → (i best : ℕ) → TryingRow ds ps from to i best → to - 1 ≤ i → Answer depthOf from to (zip ds ps) (best + 1) (to - 1 - from)
   row-all high i best h g =
       quick-all depthOf (0, 0) (zip ds ps) from to (getD ds (to - 1) 0) i best (sym (depth-at high (to - 1) (omega (arith, h .high)))) h (omega (arith, h .high))

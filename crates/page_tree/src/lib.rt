@@ -149,10 +149,10 @@ pub fn split_at(row: Row, from: usize, to: usize) -> Cut
                 tried: i + 1 - from,
             };
         }
-        i += 1;
         if d < row.depths[best] {
-            best = i - 1;
+            best = i;
         }
+        i += 1;
     }
     Cut {
         at: best + 1,

@@ -1,10 +1,11 @@
 -- `page_tree::split_at` meets its contract: each turn tries one entry more. Assumes nothing.
 use mathlib.Core.Path.{_≡_, refl}
+use mathlib.Core.Logic.{⊎-elim, inl, inr}
 use Prim.Native.Nat.{_+_, _-_}
 use borrow.Author.Needs.{needs}
 use native.Mathlib.Omega.{arith}
 use lib.ListN.{getD}
-use Rattle.page_tree.proofs.QuickSearchLaws.{TryingRow, row-begun, row-better, row-on, row-met, row-all}
+use Rattle.page_tree.proofs.QuickSearchLaws.{TryingRow, row-begun, row-next, row-met, row-all}
 use Rattle.page_tree.proofs.split_at.Statement.{statement}
 use Rattle.page_tree.proofs.split_at.Tie as tie
 
@@ -52,14 +53,11 @@ returns c =
     row-met _ _ (search needs, search needs) _ _ (omega arith) _ _ _ _ (inv .2) (omega arith) (inv .1) refl (omega (arith, c .before .wide2 .ensures .0)) in
     record { place = met .0; count = met .1 }
 
-add-i : tie.Need-add-i Inv-loop μ-loop
-add-i c = search needs
-
 element-copy-out-if2 : tie.Need-element-copy-out-if2 Inv-loop μ-loop
 element-copy-out-if2 c = search needs
 
-sub-best : tie.Need-sub-best Inv-loop μ-loop
-sub-best c = search needs
+add-i : tie.Need-add-i Inv-loop μ-loop
+add-i c = search needs
 
 loop-less : tie.Need-loop-less Inv-loop μ-loop
 loop-less c = search needs
@@ -69,18 +67,8 @@ loop-again c =
     let tried = c .before .before .before in
     let inv = tried .before .before .before .loop .inv in
     let next =
-    row-better _ _ (search needs, search needs) _ _ (omega arith) _ _ _ _ (inv .2) (omega arith) (inv .1) refl (λ e. omega (arith, e, tried .wide2 .ensures .0)) (omega arith) in
-    (refl, inv .1, next)
-
-loop-less-2 : tie.Need-loop-less-2 Inv-loop μ-loop
-loop-less-2 c = search needs
-
-loop-again-2 : tie.Need-loop-again-2 Inv-loop μ-loop
-loop-again-2 c =
-    let tried = c .before .before .before in
-    let inv = tried .before .before .before .loop .inv in
-    let next =
-    row-on _ _ (search needs, search needs) _ _ (omega arith) _ _ _ _ (inv .2) (omega arith) (inv .1) refl (λ e. omega (arith, e, tried .wide2 .ensures .0)) (omega arith) in
+    row-next _ _ (search needs, search needs) _ _ (omega arith) _ _ _ _ (inv .2) (omega arith) (inv .1) refl (λ e. omega (arith, e, tried .wide2 .ensures .0)) _
+    (⊎-elim (λ w. inl (w .0 .taken, w .1)) (λ w. inr (w .0 .left, w .1)) (c .if2 .came)) in
     (refl, inv .1, next)
 
 add-t10 : tie.Need-add-t10 Inv-loop μ-loop
@@ -111,13 +99,10 @@ split-at-spec =
     add-t20
     sub-t21
     returns
-    add-i
     element-copy-out-if2
-    sub-best
+    add-i
     loop-less
     loop-again
-    loop-less-2
-    loop-again-2
     add-t10
     sub-t24
     returns-2)
