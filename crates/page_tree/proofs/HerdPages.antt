@@ -14,16 +14,18 @@ use Rattle.leaf_list.proofs.Bits.{bits-length}
 use Rattle.leaf_list.proofs.Depths.{Neighbours}
 use Rattle.leaf_list.proofs.Positions.{Beyond, positions-beyond, positions-rise}
 use Rattle.leaf_list.proofs.Laws.{empty-law, find-law, insertion-law, found-law, deletion-law, closed-law, neighbours-law}
-use Rattle.page_tree.specs.Rows.{Closed, lastDepth}
+use Rattle.page_tree.specs.Rows.{All, Closed, lastDepth}
 use Rattle.page_tree.specs.Tree.{Node, depth, Tree, leavesOf, SoundTree, RootRule}
 use Rattle.page_tree.specs.Finding.{findIn}
 use Rattle.page_tree.specs.OnPages.{Replacement, newEntries, replaceIn, insertBelow, onTree}
+use Rattle.page_tree.specs.CutRows.{RightPlace, onRowsCut}
 use Rattle.page_tree.specs.OffPages.{offTree}
 use Rattle.page_tree.proofs.ClosedRows.{closed-last}
 use Rattle.page_tree.proofs.TreeLaws.{closed-leaves}
 use Rattle.page_tree.proofs.FindingLaws.{FoundAt, findIn-leaves, findFlat-search}
 use Rattle.page_tree.proofs.InsertionLeaves.{insertTree-leaves}
 use Rattle.page_tree.proofs.InsertionSound.{Fits, insertBelow-inPlace, insertTree-sound, insertTree-root}
+use Rattle.page_tree.proofs.CutRowLaws.{rowsCut-right}
 use Rattle.page_tree.proofs.RowLengths.{longestBelow, longestBelow-short, longestAbove, longestAbove-first}
 use Rattle.page_tree.proofs.DeletionLeaves.{deleteFlat}
 use Rattle.page_tree.proofs.DeletionTrees.{deleteTree-leaves, deleteTree-sound}
@@ -113,6 +115,12 @@ module _ (w E : ℕ) (s : Herd) (t : Tree) (narrow : Narrow w s) (sorted : Sorte
                 ∙ replaceIn-insertInto (λ x. bits w (keyOf x)) k r (leafList w s) [] (positions 0 k)
                 ∙ insertion-law keyOf w key r s narrowKey narrow sorted keys absent;
           }
+
+      -- "In every row that insertion cuts, the place found is 01's."
+      pub on-places : All RightPlace (onRowsCut w E keyOf key r t)
+      on-places =
+          let k : Key = bits w key in
+          rowsCut-right E w new (positions 0 k) t (omega arith) (h .sound) (positions-rise 0 k) (positions-past k) new-fits
 
       -- No row that is cut is longer than E + w, at any level,
       pub on-row-short : longestBelow E new (suc (t .0)) (positions 0 (bits w key)) 0 (t .1) ≤ E + w

@@ -2,6 +2,7 @@ pub mod MergingExamples
 pub mod ListLaws
 pub mod ClosedRows
 pub mod Splitting
+pub mod QuickCutLaws
 pub mod CuttingLaws
 pub mod WalkLaws
 pub mod WalkPlaces
@@ -15,6 +16,7 @@ pub mod Growing
 pub mod InsertionLeaves
 pub mod InsertionSound
 pub mod RowLengths
+pub mod CutRowLaws
 pub mod InsertionPages
 pub mod DeletionLeaves
 pub mod DeletionSteps
@@ -30,7 +32,6 @@ pub mod FlatInsertion
 pub mod FlatDeletion
 pub mod HerdPages
 pub mod RowLaws
-pub mod QuickCutLaws
 pub mod QuickSearchLaws
 pub mod PartEnds
 pub mod RowCuts

@@ -5,6 +5,7 @@ pub mod QuickCut
 pub mod Walk
 pub mod Finding
 pub mod OnPages
+pub mod CutRows
 pub mod Numbered
 pub mod Merging
 pub mod OffPages

@@ -1,0 +1,125 @@
+-- In every row that an insertion cuts, the last depth is below all others, so the quick search finds 01's place. Assumes nothing.
+use mathlib.Core.Path.{_≡_, refl, ap, _∙_}
+use mathlib.Core.Bool.{Bool, true, false, cond}
+use mathlib.Core.List.{List, [], _∷_, _++_, map}
+use Prim.Native.Nat.{ℕ, zero, suc, _+_, _≤_}
+use native.Mathlib.Omega.{arith}
+use lib.Dec.{leb}
+use lib.ListN.{length, length-append}
+use borrow.Author.Tests.{leb-false}
+use Rattle.leaf_list.proofs.Lists.{all-append, all-weaker}
+use Rattle.leaf_list.proofs.Positions.{Beyond, Rising}
+use Rattle.page_tree.specs.Rows.{All, Closed, LastBelow}
+use Rattle.page_tree.specs.Tree.{Node, depth, Sound, Tree, SoundTree}
+use Rattle.page_tree.specs.Cutting.{split, cut, parts}
+use Rattle.page_tree.specs.Walk.{walk}
+use Rattle.page_tree.specs.Finding.{Found, nowhere, findBelow, findIn}
+use Rattle.page_tree.specs.OnPages.{Replacement, replaceIn, insertBelow}
+use Rattle.page_tree.specs.CutRows.{RightPlace, cutAgain, cutRows, cutBelow, cutAbove, rowsCut}
+use Rattle.page_tree.proofs.ListLaws.{all-unit}
+use Rattle.page_tree.proofs.ClosedRows.{closed-below}
+use Rattle.page_tree.proofs.RowMaps.{closed-map}
+use Rattle.page_tree.proofs.Splitting.{split-shallowest, split-closed}
+use Rattle.page_tree.proofs.QuickCutLaws.{quick-law}
+use Rattle.page_tree.proofs.CuttingLaws.{parts-cut}
+use Rattle.page_tree.proofs.WalkLaws.{walk-stop, walk-pass, walk-induction}
+use Rattle.page_tree.proofs.InsertionSound.{Fits, insertBelow-inPlace, row-inPlace}
+
+-- In every row of depths the last is below all others.
+abbrev AllBelow : List (List ℕ) → Type 0
+AllBelow rows = All (LastBelow (λ d. d)) rows
+
+module _ {A : Type 0} (depth : A → ℕ) (E : ℕ) where
+  -- Each row cut makes one part more.
+  pub cutAgain-parts : (fuel : ℕ) (row : List A) → length (cut depth E fuel row) ≡ suc (length (cutAgain depth E fuel row))
+  unfolding cut cutAgain
+  cutAgain-parts zero row = refl
+  cutAgain-parts (suc fuel) row =
+      go (leb (length row) E) (cutAgain-parts fuel (split depth row .1)) (cutAgain-parts fuel (split depth row .2))
+    where
+      ls : List (List A)
+      ls = cut depth E fuel (split depth row .1)
+
+      rs : List (List A)
+      rs = cut depth E fuel (split depth row .2)
+
+      ls′ : List (List ℕ)
+      ls′ = cutAgain depth E fuel (split depth row .1)
+
+      rs′ : List (List ℕ)
+      rs′ = cutAgain depth E fuel (split depth row .2)
+
+      go : (t : Bool) → length ls ≡ suc (length ls′) → length rs ≡ suc (length rs′)
+          → length (cond t (row ∷ []) (ls ++ rs)) ≡ suc (length (cond t [] (map depth row ∷ ls′ ++ rs′)))
+      go true p q = refl
+      go false p q = omega (arith, length-append ls rs, length-append ls′ rs′)
+
+  -- Where a closed row is cut, it and all parts that are cut again are closed.
+  cutAgain-below : 1 ≤ E → (fuel : ℕ) (row : List A) (c : ℕ) → Closed depth c row → AllBelow (cutAgain depth E fuel row)
+  unfolding cutAgain
+  cutAgain-below one zero row c h = tt
+  cutAgain-below one (suc fuel) row c h =
+      go (leb (length row) E) refl (λ c. cutAgain-below one fuel (split depth row .1) c) (λ c. cutAgain-below one fuel (split depth row .2) c)
+    where
+      ls : List (List ℕ)
+      ls = cutAgain depth E fuel (split depth row .1)
+
+      rs : List (List ℕ)
+      rs = cutAgain depth E fuel (split depth row .2)
+
+      same : All (λ x. depth x ≡ depth x) row
+      same = all-weaker (λ x. Unit {0}) (λ x. depth x ≡ depth x) row (λ x u. refl) (all-unit row)
+
+      go : (t : Bool) → leb (length row) E ≡ t → ((c : ℕ) → Closed depth c (split depth row .1) → AllBelow ls)
+          → ((c : ℕ) → Closed depth c (split depth row .2) → AllBelow rs) → AllBelow (cond t [] (map depth row ∷ ls ++ rs))
+      go true e p q = tt
+      go false e p q =
+          let long = leb-false (length row) E e in (
+            closed-below (λ d. d) c (map depth row) (closed-map depth (λ d. d) depth c row same h),
+            all-append (LastBelow (λ d. d)) ls rs (p (split depth row .0) (split-shallowest depth row (omega arith) .first))
+                (q c (split-closed depth c row (omega arith) h .1)),
+          )
+
+-- Below an entry, at every level.
+cutBelow-below : (E m : ℕ) (new : Replacement) → 1 ≤ E → (n : ℕ) (bs : List ℕ) (τ : ℕ) (x : Node n) → Sound E n x → Rising bs
+    → Beyond (depth n x) bs → Fits m new (findBelow n bs τ x) → AllBelow (cutBelow E new n bs τ x)
+cutBelow-below E m new one zero bs τ x s a e q = tt
+cutBelow-below E m new one (suc n) bs τ page s a e q =
+    all-append (LastBelow (λ d. d)) (walk (depth n) (λ bs τ x xs. cutBelow E new n bs τ x) (λ x r. r) [] bs τ page) (cutRows (depth n) E row)
+    (walk-induction (depth n) (λ bs τ x xs. cutBelow E new n bs τ x) (λ x r. r) [] (Sound E n) (depth (suc n) page)
+    (λ bs τ xs rows. Fits m new (findBelow (suc n) bs τ xs) → AllBelow rows)
+    (λ bs τ x xs cl p a e q. cutBelow-below E m new one n bs τ x (p .0) a e
+    (rw (walk-stop (depth n) find (λ x r. r) nowhere bs τ x xs e) at q))
+    (λ b bs τ x y ys r l p h ih q. ih (rw (walk-pass (depth n) find (λ x r. r) nowhere b bs τ x (y ∷ ys) h) at q))
+    bs τ page (s .0 .0) (s .1) a e q)
+    (cutAgain-below (depth n) E one (length row) row (depth (suc n) page) (row-inPlace E m new one n bs τ page s a e q .closed))
+  where
+    find : List ℕ → ℕ → Node n → List (Node n) → Found
+    find bs τ x xs = findBelow n bs τ x
+
+    row : List (Node n)
+    row = replaceIn (depth n) (insertBelow E new n) bs τ page
+
+-- Of new roots.
+cutAbove-below : (E : ℕ) → 1 ≤ E → (fuel n : ℕ) (xs : List (Node (suc n))) (c : ℕ) → Closed (depth (suc n)) c xs → AllBelow (cutAbove E fuel n xs)
+cutAbove-below E one zero n xs c h = tt
+cutAbove-below E one (suc fuel) n [] c h = tt
+cutAbove-below E one (suc fuel) n (x ∷ []) c h = tt
+cutAbove-below E one (suc fuel) n (x ∷ y ∷ xs) c h =
+    all-append (LastBelow (λ d. d)) (cutRows (depth (suc n)) E (x ∷ y ∷ xs)) _
+    (cutAgain-below (depth (suc n)) E one (length (x ∷ y ∷ xs)) (x ∷ y ∷ xs) c h)
+    (cutAbove-below E one fuel (suc n) (parts (depth (suc n)) E (x ∷ y ∷ xs)) c (parts-cut (depth (suc n)) E c (x ∷ y ∷ xs) one h .closed))
+
+module _ (E m : ℕ) (new : Replacement) (bs : List ℕ) (t : Tree) (one : 1 ≤ E) (s : SoundTree E t) (a : Rising bs)
+    (e : Beyond (depth (suc (t .0)) (t .1)) bs) (q : Fits m new (findIn bs t)) where
+  -- "the last depth is below all others", in every row that the insertion cuts.
+  pub rowsCut-below : AllBelow (rowsCut E new bs t)
+  rowsCut-below =
+      let roots : List (Node (suc (t .0))) = insertBelow E new (suc (t .0)) bs 0 (t .1) in
+      let o = insertBelow-inPlace E m new one (suc (t .0)) bs 0 (t .1) s a e q in
+      all-append (LastBelow (λ d. d)) (cutBelow E new (suc (t .0)) bs 0 (t .1)) (cutAbove E (length roots) (t .0) roots)
+      (cutBelow-below E m new one (suc (t .0)) bs 0 (t .1) s a e q) (cutAbove-below E one (length roots) (t .0) roots (depth (suc (t .0)) (t .1)) (o .closed))
+
+  -- "In every row that insertion cuts, the place found is 01's."
+  pub rowsCut-right : All RightPlace (rowsCut E new bs t)
+  rowsCut-right = all-weaker (LastBelow (λ d. d)) RightPlace (rowsCut E new bs t) (λ row h. quick-law (λ d. d) row h) rowsCut-below
