@@ -19,10 +19,12 @@ use Rattle.leaf_list.proofs.Laws.{depths-law}
 use Rattle.leaf_list.proofs.RegisterChange.{herdOf-set, herdOf-clear}
 use Rattle.leaf_list.proofs.RegisterHerd.{herdOf-holds, herdOf-length, holds-lookup, lookup-holds}
 use Rattle.page_tree.specs.Tree.{leavesOf}
+use Rattle.page_tree.specs.Rows.{All}
 use Rattle.page_tree.specs.OnPages.{onTree}
+use Rattle.page_tree.specs.CutRows.{RightPlace, onRowsCut}
 use Rattle.page_tree.specs.OffPages.{offTree}
 use Rattle.page_tree.specs.Numbered.{treeAside, onNumbered, offNumbered}
-use Rattle.page_tree.proofs.HerdPages.{HerdTree, on-pages, off-pages}
+use Rattle.page_tree.proofs.HerdPages.{HerdTree, on-pages, on-places, off-pages}
 use Rattle.page_tree.proofs.NumberedLaws.{on-aside, off-aside}
 use Rattle.index_table.specs.Layout.{layoutOf}
 use Rattle.index_table.specs.Header.{widthOf, entriesOf, pagesOf, rootOf, heldOf, HeaderFrom}
@@ -123,6 +125,13 @@ module _ {index keys used : List ℕ} (s : Sound index keys used) where
   }
 
   -- ---- on
+
+  -- "In every row that insertion cuts, the place found is 01's": in all sound tables, and any history leaves such.
+  pub places-sound : (key r : ℕ) → key < 2 ^ widthOf index → lookup key (herdOf keys used) ≡ none
+      → All RightPlace (onRowsCut (widthOf index) (entriesOf index) (keyAt keys) key r (treeOf index))
+  places-sound key r narrow absent =
+      on-places (widthOf index) (entriesOf index) (herdOf keys used) (treeOf index) (herd-narrow s) (herd-sorted s) herd-tree (keyAt keys) key r narrow (herd-keys s)
+      absent (s .limits .entries-low)
 
   module _ (key r : ℕ) (inside : r < length used) (free : inUse used r ≡ false) (absent : lookup key (herdOf keys used) ≡ none) where
     -- The herd has the key more.
