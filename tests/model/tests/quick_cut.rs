@@ -113,9 +113,11 @@ fn rows_by_hand() {
 #[test]
 fn a_part_and_a_new_root_have_their_own_last() {
     let row = vec![4, 3, 5, 2, 6, 0];
-    let page = (Cutting::Page, row.clone(), 4, 5);
-    let part = (Cutting::Part, vec![4, 3, 5, 2], 2, 2);
-    let new_root = (Cutting::NewRoot, vec![3, 2, 0], 2, 2);
+    let all = [
+        (Cutting::Page, row.clone(), 4, 5),
+        (Cutting::Part, vec![4, 3, 5, 2], 2, 2),
+        (Cutting::NewRoot, vec![3, 2, 0], 2, 2),
+    ];
     let searched = |most| {
         let search = |cut: Cut| {
             let Found { place, tried } = quick_search(&cut.depths);
@@ -126,7 +128,7 @@ fn a_part_and_a_new_root_have_their_own_last() {
         cuts.map(search).collect::<Vec<_>>()
     };
     assert_eq!(searched(6), []);
-    assert_eq!(searched(5), [page.clone()]);
-    assert_eq!(searched(3), [page.clone(), part.clone()]);
-    assert_eq!(searched(2), [page, part, new_root]);
+    assert_eq!(searched(5), all[..1]);
+    assert_eq!(searched(3), all[..2]);
+    assert_eq!(searched(2), all);
 }

@@ -1,5 +1,6 @@
 //! Cutting a page more quickly: "in every row that insertion cuts, the place found
-//! is 01's". Every order of few keys, and random histories with merging.
+//! is 01's". Every order and every history of few keys, and random histories, all
+//! offs with merging.
 
 mod common;
 mod cut_rows;
@@ -11,7 +12,7 @@ use model::pages::{lowered, Cut, Cutting};
 use model::random::keys::{key, SPREADS};
 use model::random::tags::{lots, tag};
 use model::random::Random;
-use std::collections::{BTreeMap, BTreeSet};
+use std::collections::{BTreeMap, BTreeSet, HashSet};
 
 /// What was met.
 #[derive(Debug, Default)]
@@ -84,6 +85,43 @@ fn all_keys_of_3_bits_in_every_order() {
         let too_long = [Cutting::Part, Cutting::NewRoot].map(|of| met.cut(of) != [0, 0]);
         assert_eq!(too_long, [entries == 2; 2]);
     }
+}
+
+/// Makes every history of on and off; gives the number of different page trees. Each
+/// key is its own record.
+fn every_history(empty: Index, met: &mut Met) -> usize {
+    let keys = empty.register.len() as u64;
+    let mut trees = HashSet::from([empty.root.without_numbers()]);
+    let mut to_do = vec![empty];
+    while let Some(index) = to_do.pop() {
+        for key in 0..keys {
+            let mut next = index.clone();
+            let done = match next.find(key) {
+                Ok(_) => met.off(&mut next, key) == key,
+                Err(_) => met.on(&mut next, key, key) == 0,
+            };
+            assert!(done);
+            if trees.insert(next.root.without_numbers()) {
+                to_do.push(next);
+            }
+        }
+    }
+    trees.len()
+}
+
+#[test]
+fn all_keys_of_3_bits_in_every_history() {
+    let mut met = Met::default();
+    for entries in 2..=7 {
+        let trees = every_history(Index::empty(3, entries, 100, 8), &mut met);
+        println!("E {entries}: {trees} page trees");
+        assert!(trees >= 256, "a tree for every herd at least");
+    }
+    println!("{met:?}");
+    assert_cut(&met, &[Cutting::Page], [100, 100]);
+    assert_cut(&met, &[Cutting::Part], [5, 5]);
+    assert_cut(&met, &[Cutting::NewRoot], [0, 5]);
+    assert!(met.merged >= 100, "{met:?}");
 }
 
 /// What comes to a yard.
