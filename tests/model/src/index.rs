@@ -3,7 +3,7 @@
 use crate::bits::fits;
 use crate::leaf_list::{Entry, Herd};
 use crate::merging::merged;
-use crate::pages::{changed, lowered, Page, Row};
+use crate::pages::{changed, changed_seeing, lowered, Cut, Page, Row};
 use crate::search::{deletion, insertion, position_list, search};
 
 /// "15 as the highest root level."
@@ -83,8 +83,21 @@ impl Index {
         }
     }
 
+    /// The cuts of an on, in the order in which they are made, or the row from 2
+    /// to 5 that declines it.
+    pub fn cuts(&self, key: u64, record: u64) -> Result<Vec<Cut>, u32> {
+        let mut cuts = Vec::new();
+        self.root_seeing(key, record, &mut |cut| cuts.push(cut))?;
+        Ok(cuts)
+    }
+
     /// The tree that an on would leave, or the row from 2 to 5 that declines.
     fn root_after_on(&self, key: u64, record: u64) -> Result<Page, u32> {
+        self.root_seeing(key, record, &mut |_| {})
+    }
+
+    /// The same; `see` is shown every cut.
+    fn root_seeing(&self, key: u64, record: u64, see: &mut dyn FnMut(Cut)) -> Result<Page, u32> {
         if !fits(key, self.width) {
             return Err(2);
         }
@@ -99,7 +112,8 @@ impl Index {
         }
         let leaves = self.root.leaves();
         let change = insertion(&leaves, self.width, |old| self.key(old), key, record as u32);
-        Ok(changed(self.root.clone(), &change, self.most_entries))
+        let root = self.root.clone();
+        Ok(changed_seeing(root, &change, self.most_entries, see))
     }
 
     /// Takes the key off, or gives the row that declines it. First its entries

@@ -6,8 +6,8 @@
 //! - What a herd's index is: [`bits`], [`leaf_list`], [`search`], [`pages`],
 //!   [`merging`], [`index`].
 //! - Its tables and calls: [`table`], [`sound`], [`answer`], [`calls`].
-//! - What it is measured against: [`map`], [`bounds`], [`longest`], [`claims`],
-//!   [`history`].
+//! - What it is measured against: [`map`], [`bounds`], [`longest`],
+//!   [`quick_cut`], [`claims`], [`history`].
 //! - Tags and the program: [`tag_code`], [`day_book`].
 //! - For comparisons: [`compare`], [`random`], [`shrink`].
 //!
@@ -27,6 +27,7 @@ pub mod longest;
 pub mod map;
 pub mod merging;
 pub mod pages;
+pub mod quick_cut;
 pub mod random;
 pub mod search;
 pub mod shrink;

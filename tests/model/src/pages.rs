@@ -140,20 +140,54 @@ pub fn child_over(children: &[Page], place: usize) -> (usize, usize) {
     (at, place)
 }
 
+/// What a row is that is cut.
+#[derive(Clone, Copy, Debug, PartialEq, Eq, PartialOrd, Ord)]
+pub enum Cutting {
+    /// A page with its new entries.
+    Page,
+    /// A part of a cut row, which is cut again.
+    Part,
+    /// The row of a new root.
+    NewRoot,
+}
+
+/// A cut of one row in two.
+#[derive(Clone, Debug, PartialEq, Eq)]
+pub struct Cut {
+    /// What the row is.
+    pub of: Cutting,
+    /// Its depths.
+    pub depths: Vec<usize>,
+    /// How many entries the left part gets.
+    pub place: usize,
+}
+
 /// The tree under `root` after a change of its leaf list, where a page may
 /// hold `most` entries. The root rule of a deletion is left to [`lowered`].
 pub fn changed(root: Page, change: &Change, most: usize) -> Page {
-    let mut tops = parts(root, change, &mut 0, most);
+    changed_seeing(root, change, most, &mut |_| {})
+}
+
+/// The same tree; `see` is shown every cut, in the order in which they are made.
+pub fn changed_seeing(root: Page, change: &Change, most: usize, see: &mut dyn FnMut(Cut)) -> Page {
+    let mut tops = parts(root, change, &mut 0, most, see);
     while tops.len() > 1 {
         // "Above a cut root comes a new root, itself cut while too long."
-        tops = cut(Page::new(None, Row::Children(tops)), most);
+        let root = Page::new(None, Row::Children(tops));
+        tops = cut(root, most, Cutting::NewRoot, see);
     }
     tops.pop().expect("the leaf list is never empty")
 }
 
 /// What becomes of a page: none if it is emptied, several if it is cut. `next`
 /// is the place in the leaf list of the next leaf to come.
-fn parts(page: Page, change: &Change, next: &mut usize, most: usize) -> Vec<Page> {
+fn parts(
+    page: Page,
+    change: &Change,
+    next: &mut usize,
+    most: usize,
+    see: &mut dyn FnMut(Cut),
+) -> Vec<Page> {
     let mut leaf = |entry: Entry| {
         *next += 1;
         change.get(&(*next - 1)).cloned().unwrap_or(vec![entry])
@@ -161,22 +195,22 @@ fn parts(page: Page, change: &Change, next: &mut usize, most: usize) -> Vec<Page
     let row = match page.row {
         Row::Leaves(leaves) => Row::Leaves(leaves.into_iter().flat_map(&mut leaf).collect()),
         Row::Children(children) => {
-            let parts = |child| parts(child, change, next, most);
+            let parts = |child| parts(child, change, next, most, see);
             Row::Children(children.into_iter().flat_map(parts).collect())
         }
     };
-    cut(Page::new(page.number, row), most)
+    cut(Page::new(page.number, row), most, Cutting::Page, see)
 }
 
 /// The pages that a page is cut into; the first keeps its number.
-fn cut(page: Page, most: usize) -> Vec<Page> {
+fn cut(page: Page, most: usize, of: Cutting, see: &mut dyn FnMut(Cut)) -> Vec<Page> {
     let rows: Vec<Row> = match page.row {
         Row::Leaves(row) => {
-            let rows = cut_row(row, |entry| entry.depth, most).into_iter();
+            let rows = cut_row(row, |entry| entry.depth, most, of, see).into_iter();
             rows.map(Row::Leaves).collect()
         }
         Row::Children(row) => {
-            let rows = cut_row(row, Page::last_depth, most).into_iter();
+            let rows = cut_row(row, Page::last_depth, most, of, see).into_iter();
             rows.map(Row::Children).collect()
         }
     };
@@ -188,7 +222,13 @@ fn cut(page: Page, most: usize) -> Vec<Page> {
 /// "A page with more than E entries is cut after its shallowest entry, the
 /// last left out of the choice; the left part first, then the right, are cut
 /// again while too long." An emptied row leaves no part.
-fn cut_row<T>(mut row: Vec<T>, depth: fn(&T) -> usize, most: usize) -> Vec<Vec<T>> {
+fn cut_row<T>(
+    mut row: Vec<T>,
+    depth: fn(&T) -> usize,
+    most: usize,
+    of: Cutting,
+    see: &mut dyn FnMut(Cut),
+) -> Vec<Vec<T>> {
     if row.is_empty() {
         return vec![];
     }
@@ -199,9 +239,14 @@ fn cut_row<T>(mut row: Vec<T>, depth: fn(&T) -> usize, most: usize) -> Vec<Vec<T
     let shallowest = choice
         .min_by_key(|&i| depth(&row[i]))
         .expect("E is at least 2");
+    see(Cut {
+        of,
+        depths: row.iter().map(depth).collect(),
+        place: shallowest + 1,
+    });
     let right = row.split_off(shallowest + 1);
-    let mut parts = cut_row(row, depth, most);
-    parts.extend(cut_row(right, depth, most));
+    let mut parts = cut_row(row, depth, most, Cutting::Part, see);
+    parts.extend(cut_row(right, depth, most, Cutting::Part, see));
     parts
 }
 
