@@ -51,7 +51,7 @@ returns c =
     let inv = c .before .before .before .before .loop .inv in
     let met =
     row-met _ _ (search needs, search needs) _ _ (omega arith) _ _ _ _ (inv .2) (omega arith) (inv .1) refl (omega (arith, c .before .wide2 .ensures .0)) in
-    record { place = met .0; count = met .1 }
+    record { place = omega (arith, met .0); count = omega (arith, met .1) }
 
 element-copy-out-if2 : tie.Need-element-copy-out-if2 Inv-loop μ-loop
 element-copy-out-if2 c = search needs
@@ -68,7 +68,7 @@ loop-again c =
     let inv = tried .before .before .before .loop .inv in
     let next =
     row-next _ _ (search needs, search needs) _ _ (omega arith) _ _ _ _ (inv .2) (omega arith) (inv .1) refl (λ e. omega (arith, e, tried .wide2 .ensures .0)) _
-    (⊎-elim (λ w. inl (w .0 .taken, w .1)) (λ w. inr (w .0 .left, w .1)) (c .if2 .came)) in
+    (⊎-elim (λ w. inl (omega (arith, w .0 .taken), w .1)) (λ w. inr (omega (arith, w .0 .left), w .1)) (c .if2 .came)) in
     (refl, inv .1, next)
 
 add-t10 : tie.Need-add-t10 Inv-loop μ-loop
@@ -80,7 +80,7 @@ sub-t24 c = search needs
 returns-2 : tie.Need-returns-2 Inv-loop μ-loop
 returns-2 c =
     let all = row-all _ _ (search needs, search needs) _ _ (omega arith) _ _ (c .before .loop .inv .2) (omega arith) in
-    record { place = all .0; count = all .1 }
+    record { place = omega (arith, all .0); count = omega (arith, all .1) }
 
 pub split-at-spec : {M : Type 1} → statement M
 split-at-spec =
