@@ -4,17 +4,17 @@ use mathlib.Core.Bool.{Bool, true, false, cond}
 use mathlib.Core.List.{List, [], _∷_, _++_, map}
 use Prim.Native.Nat.{ℕ, zero, suc, _+_, _≤_}
 use native.Mathlib.Omega.{arith}
-use lib.Dec.{leb}
+use lib.Dec.{leb, ltb}
 use lib.ListN.{length, length-append}
 use borrow.Author.Tests.{leb-false}
 use Rattle.leaf_list.proofs.Lists.{all-append, all-weaker}
 use Rattle.leaf_list.proofs.Positions.{Beyond, Rising}
 use Rattle.page_tree.specs.Rows.{All, Closed, LastBelow}
-use Rattle.page_tree.specs.Tree.{Node, depth, Sound, Tree, SoundTree}
+use Rattle.page_tree.specs.Tree.{Node, depth, Sound, Tree, pagesOf, SoundTree}
 use Rattle.page_tree.specs.Cutting.{split, cut, parts}
-use Rattle.page_tree.specs.Walk.{walk}
+use Rattle.page_tree.specs.Walk.{rest, walk}
 use Rattle.page_tree.specs.Finding.{Found, nowhere, findBelow, findIn}
-use Rattle.page_tree.specs.OnPages.{Replacement, replaceIn, insertBelow}
+use Rattle.page_tree.specs.OnPages.{Replacement, replaceIn, insertBelow, pagesBelow, grow, insertTree}
 use Rattle.page_tree.specs.CutRows.{RightPlace, cutAgain, cutRows, cutBelow, cutAbove, rowsCut}
 use Rattle.page_tree.proofs.ListLaws.{all-unit}
 use Rattle.page_tree.proofs.ClosedRows.{closed-below}
@@ -23,6 +23,8 @@ use Rattle.page_tree.proofs.Splitting.{split-shallowest, split-closed}
 use Rattle.page_tree.proofs.QuickCutLaws.{quick-law}
 use Rattle.page_tree.proofs.CuttingLaws.{parts-cut}
 use Rattle.page_tree.proofs.WalkLaws.{walk-stop, walk-pass, walk-induction}
+use Rattle.page_tree.proofs.Growing.{rootParts, pagesAbove}
+use Rattle.page_tree.proofs.InsertionPages.{insertTree-pages}
 use Rattle.page_tree.proofs.InsertionSound.{Fits, insertBelow-inPlace, row-inPlace}
 
 -- In every row of depths the last is below all others.
@@ -109,6 +111,67 @@ cutAbove-below E one (suc fuel) n (x ∷ y ∷ xs) c h =
     all-append (LastBelow (λ d. d)) (cutRows (depth (suc n)) E (x ∷ y ∷ xs)) _
     (cutAgain-below (depth (suc n)) E one (length (x ∷ y ∷ xs)) (x ∷ y ∷ xs) c h)
     (cutAbove-below E one fuel (suc n) (parts (depth (suc n)) E (x ∷ y ∷ xs)) c (parts-cut (depth (suc n)) E c (x ∷ y ∷ xs) one h .closed))
+
+-- ---- how many rows are cut
+
+-- A walk that hands back what it found, and what g makes of that.
+walk-into : {A B X : Type 0} (d : A → ℕ) (g : B → X) (found : List ℕ → ℕ → A → List A → B) (none : B) (bs : List ℕ) (τ : ℕ) (xs : List A)
+    → g (walk d found (λ x r. r) none bs τ xs) ≡ walk d (λ bs τ x xs. g (found bs τ x xs)) (λ x r. r) (g none) bs τ xs
+walk-into d g found none bs τ [] = refl
+walk-into d g found none [] τ (x ∷ xs) = refl
+walk-into {A} {B} {X} d g found none (b ∷ bs) τ (x ∷ xs) = step (ltb (d x) b) (walk-into d g found none (rest (d x) b bs) (d x) xs)
+  where
+    r : B
+    r = walk d found (λ x r. r) none (rest (d x) b bs) (d x) xs
+
+    r′ : X
+    r′ = walk d (λ bs τ x xs. g (found bs τ x xs)) (λ x r. r) (g none) (rest (d x) b bs) (d x) xs
+
+    step : (t : Bool) → g r ≡ r′ → g (cond t (found (b ∷ bs) τ x xs) r) ≡ cond t (g (found (b ∷ bs) τ x xs)) r′
+    step true ih = refl
+    step false ih = ih
+
+-- Below an entry each takes one page.
+cutBelow-pages : (E : ℕ) (new : Replacement) (n : ℕ) (bs : List ℕ) (τ : ℕ) (x : Node n) → length (cutBelow E new n bs τ x) ≡ pagesBelow E new n bs τ x
+cutBelow-pages E new zero bs τ x = refl
+cutBelow-pages E new (suc n) bs τ page =
+    let row : List (Node n) = replaceIn (depth n) (insertBelow E new n) bs τ page in
+    let below : List (List ℕ) = walk (depth n) (λ bs τ x xs. cutBelow E new n bs τ x) (λ x r. r) [] bs τ page in
+    let here : length below ≡ walk (depth n) (λ bs τ x xs. pagesBelow E new n bs τ x) (λ x r. r) 0 bs τ page =
+    walk-into (depth n) length (λ bs τ x xs. cutBelow E new n bs τ x) [] bs τ page
+    ∙ (λ i. walk (depth n) (λ bs τ x xs. cutBelow-pages E new n bs τ x i) (λ x r. r) 0 bs τ page) in
+    omega (arith, here, length-append below (cutRows (depth n) E row), cutAgain-parts (depth n) E (length row) row)
+
+-- In new roots each takes one page, and so does each new level.
+cutAbove-pages : (E fuel n : ℕ) (xs : List (Node (suc n))) → pagesAbove E fuel n xs + n ≡ length (cutAbove E fuel n xs) + grow E fuel n xs .0
+cutAbove-pages E zero n [] = refl
+cutAbove-pages E zero n (x ∷ []) = refl
+cutAbove-pages E zero n (x ∷ y ∷ xs) = omega arith
+cutAbove-pages E (suc fuel) n [] = refl
+cutAbove-pages E (suc fuel) n (x ∷ []) = refl
+cutAbove-pages E (suc fuel) n (x ∷ y ∷ xs) =
+    let up : List (Node (suc (suc n))) = rootParts E n (x ∷ y ∷ xs) in
+    omega (
+      arith,
+      cutAbove-pages E fuel (suc n) up,
+      length-append (cutRows (depth (suc n)) E (x ∷ y ∷ xs)) (cutAbove E fuel (suc n) up),
+      cutAgain-parts (depth (suc n)) E (length (x ∷ y ∷ xs)) (x ∷ y ∷ xs),
+    )
+
+-- No row is left out: an insertion takes one page for each row that it cuts, and one for each new level.
+pub rowsCut-pages : (E : ℕ) (new : Replacement) (bs : List ℕ) (t : Tree) → 1 ≤ E
+    → pagesOf (insertTree E new bs t) + t .0 ≡ (pagesOf t + length (rowsCut E new bs t)) + insertTree E new bs t .0
+rowsCut-pages E new bs t one =
+    let roots : List (Node (suc (t .0))) = insertBelow E new (suc (t .0)) bs 0 (t .1) in
+    omega (
+      arith,
+      insertTree-pages E new one bs t,
+      length-append (cutBelow E new (suc (t .0)) bs 0 (t .1)) (cutAbove E (length roots) (t .0) roots),
+      cutBelow-pages E new (suc (t .0)) bs 0 (t .1),
+      cutAbove-pages E (length roots) (t .0) roots,
+    )
+
+-- ---- the place found in them
 
 module _ (E m : ℕ) (new : Replacement) (bs : List ℕ) (t : Tree) (one : 1 ≤ E) (s : SoundTree E t) (a : Rising bs)
     (e : Beyond (depth (suc (t .0)) (t .1)) bs) (q : Fits m new (findIn bs t)) where

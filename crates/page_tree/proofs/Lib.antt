@@ -16,8 +16,8 @@ pub mod Growing
 pub mod InsertionLeaves
 pub mod InsertionSound
 pub mod RowLengths
-pub mod CutRowLaws
 pub mod InsertionPages
+pub mod CutRowLaws
 pub mod DeletionLeaves
 pub mod DeletionSteps
 pub mod DeletionSound
