@@ -11,6 +11,7 @@ mod change;
 mod comparison;
 mod empty;
 mod herd;
+mod least;
 mod library;
 mod load;
 mod lorry;
