@@ -9,6 +9,7 @@ mod aligned;
 mod both;
 mod change;
 mod comparison;
+mod cuts;
 mod empty;
 mod herd;
 mod least;
