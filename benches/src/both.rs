@@ -2,6 +2,7 @@
 //! and keys put on and taken off.
 
 use crate::herd::Herd;
+use crate::least::{Least, Times};
 use crate::library::check;
 use crate::measure::{Read, LISTED, READS};
 use crate::rounds::{drawn, median, quiet_rounds, time, Median, LOOKED_FOR, TESTED};
@@ -11,9 +12,6 @@ use model::random::Random;
 use model::table::Tables;
 use std::hint::black_box;
 use std::time::Duration;
-
-/// The times of a call, in nanoseconds, the earlier library's first.
-pub type Times = [f64; 2];
 
 /// A call of both libraries, in nanoseconds.
 pub struct Both {
@@ -122,7 +120,7 @@ struct Changing {
     /// What is changed, row after row; the keys of a row are all different.
     tags: Vec<Tag>,
     /// The least times of each row, of the changes and of those that undo them.
-    least: Vec<[Times; 2]>,
+    least: Least,
 }
 
 impl Changing {
@@ -131,7 +129,7 @@ impl Changing {
             sides: sides(start),
             start: start.clone(),
             changed,
-            least: vec![[[f64::INFINITY; 2]; 2]; tags.len() / change::IN_A_ROW],
+            least: Least::new(tags.len() / change::IN_A_ROW),
             tags,
         };
         changing.test();
@@ -171,7 +169,7 @@ impl Changing {
     /// The times of one row by the library of this place: of the changes, and of
     /// those that undo them.
     fn row(&mut self, place: usize, number: usize) -> [f64; 2] {
-        let first = number % self.least.len() * change::IN_A_ROW;
+        let first = number % self.least.rows() * change::IN_A_ROW;
         let tags = &self.tags[first..first + change::IN_A_ROW];
         let side = &mut self.sides[place];
         match self.changed {
@@ -192,28 +190,14 @@ impl Changing {
         if self.declined() {
             return None;
         }
-        let row = number % self.least.len();
-        let least = self.least[row].as_flattened_mut();
-        for (least, time) in least.iter_mut().zip(times.as_flattened()) {
-            *least = least.min(*time);
-        }
+        self.least.add(number, times);
         Some(times)
-    }
-
-    /// The mean of the rows' least times, of the changes or of those that undo them.
-    fn mean(&self, which: usize, place: usize) -> f64 {
-        let least = self.least.iter().map(|row| row[which][place]);
-        let timed: Vec<f64> = least.filter(|time| time.is_finite()).collect();
-        timed.iter().sum::<f64>() / timed.len() as f64
     }
 
     /// Measures the changes, and those that undo them, for so long.
     fn measure(&mut self, how_long: Duration) -> [Change; 2] {
         let rounds = quiet_rounds(how_long, |number| self.round(number));
-        [0, 1].map(|which| Change {
-            quiet: both(&rounds, which),
-            means: [0, 1].map(|place| self.mean(which, place)),
-        })
+        changed(&rounds, &self.least)
     }
 }
 
@@ -239,6 +223,14 @@ fn both<const CALLS: usize>(rounds: &[[Times; CALLS]], call: usize) -> Both {
         now: of(|[_, now]| now),
         ratio: of(|[before, now]| now / before),
     }
+}
+
+/// Two changes that rounds have, and the least times of their rows.
+pub fn changed(rounds: &[[Times; 2]], least: &Least) -> [Change; 2] {
+    [0, 1].map(|which| Change {
+        quiet: both(rounds, which),
+        means: least.means(which),
+    })
 }
 
 /// Measures finds of held keys and of others, and lists, on a herd for so long.

@@ -10,10 +10,25 @@ use std::hint::black_box;
 /// A key and its record.
 pub type Tag = (u64, u32);
 
+/// One of the two libraries.
 #[derive(Clone, Copy)]
-enum Library {
+pub enum Library {
     Before,
     Now,
+}
+
+/// Both, the earlier one first.
+pub const LIBRARIES: [Library; 2] = [Library::Before, Library::Now];
+
+impl Library {
+    /// On.
+    pub fn on(self, tables: &mut Tables, (key, record): Tag) -> Answer {
+        let tables = black_box(tables);
+        match self {
+            Library::Before => before::on(tables, key, record),
+            Library::Now => unchecked::on(tables, key, record),
+        }
+    }
 }
 
 /// A library and the tables that are its own for now.
@@ -42,12 +57,8 @@ impl Side {
         }
     }
 
-    fn on(&mut self, (key, record): Tag) {
-        let tables = black_box(&mut self.tables);
-        let answer = match self.library {
-            Library::Before => before::on(tables, key, record),
-            Library::Now => unchecked::on(tables, key, record),
-        };
+    fn on(&mut self, tag: Tag) {
+        let answer = self.library.on(&mut self.tables, tag);
         self.declined |= answer.number != 0;
     }
 
@@ -82,7 +93,7 @@ impl Side {
 /// Both libraries, the earlier one first, on equal tables.
 pub fn sides(tables: &Tables) -> [Side; 2] {
     assert!(check(tables), "the tables are sound");
-    [Library::Before, Library::Now].map(|library| Side {
+    LIBRARIES.map(|library| Side {
         library,
         tables: tables.clone(),
         declined: false,
