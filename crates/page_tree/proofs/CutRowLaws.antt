@@ -1,5 +1,5 @@
 -- In every row that an insertion cuts, the last depth is below all others, so the quick search finds 01's place. Assumes nothing.
-use mathlib.Core.Path.{_≡_, refl, ap, _∙_}
+use mathlib.Core.Path.{_≡_, refl, _∙_}
 use mathlib.Core.Bool.{Bool, true, false, cond}
 use mathlib.Core.List.{List, [], _∷_, _++_, map}
 use Prim.Native.Nat.{ℕ, zero, suc, _+_, _≤_}
@@ -9,7 +9,7 @@ use lib.ListN.{length, length-append}
 use borrow.Author.Tests.{leb-false}
 use Rattle.leaf_list.proofs.Lists.{all-append, all-weaker}
 use Rattle.leaf_list.proofs.Positions.{Beyond, Rising}
-use Rattle.page_tree.specs.Rows.{All, Closed, LastBelow}
+use Rattle.page_tree.specs.Rows.{All, itself, Closed, LastBelow}
 use Rattle.page_tree.specs.Tree.{Node, depth, Sound, Tree, pagesOf, SoundTree}
 use Rattle.page_tree.specs.Cutting.{split, cut, parts}
 use Rattle.page_tree.specs.Walk.{rest, walk}
@@ -29,7 +29,7 @@ use Rattle.page_tree.proofs.InsertionSound.{Fits, insertBelow-inPlace, 
 
 -- In every row of depths the last is below all others.
 abbrev AllBelow : List (List ℕ) → Type 0
-AllBelow rows = All (LastBelow (λ d. d)) rows
+AllBelow rows = All (LastBelow itself) rows
 
 module _ {A : Type 0} (depth : A → ℕ) (E : ℕ) where
   -- Each row cut makes one part more.
@@ -77,8 +77,8 @@ module _ {A : Type 0} (depth : A → ℕ) (E : ℕ) where
       go true e p q = tt
       go false e p q =
           let long = leb-false (length row) E e in (
-            closed-below (λ d. d) c (map depth row) (closed-map depth (λ d. d) depth c row same h),
-            all-append (LastBelow (λ d. d)) ls rs (p (split depth row .0) (split-shallowest depth row (omega arith) .first))
+            closed-below itself c (map depth row) (closed-map depth itself depth c row same h),
+            all-append (LastBelow itself) ls rs (p (split depth row .0) (split-shallowest depth row (omega arith) .first))
                 (q c (split-closed depth c row (omega arith) h .1)),
           )
 
@@ -87,7 +87,7 @@ cutBelow-below : (E m : ℕ) (new : Replacement) → 1 ≤ E → (n : ℕ) (bs :
     → Beyond (depth n x) bs → Fits m new (findBelow n bs τ x) → AllBelow (cutBelow E new n bs τ x)
 cutBelow-below E m new one zero bs τ x s a e q = tt
 cutBelow-below E m new one (suc n) bs τ page s a e q =
-    all-append (LastBelow (λ d. d)) (walk (depth n) (λ bs τ x xs. cutBelow E new n bs τ x) (λ x r. r) [] bs τ page) (cutRows (depth n) E row)
+    all-append (LastBelow itself) (walk (depth n) (λ bs τ x xs. cutBelow E new n bs τ x) (λ x r. r) [] bs τ page) (cutRows (depth n) E row)
     (walk-induction (depth n) (λ bs τ x xs. cutBelow E new n bs τ x) (λ x r. r) [] (Sound E n) (depth (suc n) page)
     (λ bs τ xs rows. Fits m new (findBelow (suc n) bs τ xs) → AllBelow rows)
     (λ bs τ x xs cl p a e q. cutBelow-below E m new one n bs τ x (p .0) a e
@@ -108,7 +108,7 @@ cutAbove-below E one zero n xs c h = tt
 cutAbove-below E one (suc fuel) n [] c h = tt
 cutAbove-below E one (suc fuel) n (x ∷ []) c h = tt
 cutAbove-below E one (suc fuel) n (x ∷ y ∷ xs) c h =
-    all-append (LastBelow (λ d. d)) (cutRows (depth (suc n)) E (x ∷ y ∷ xs)) _
+    all-append (LastBelow itself) (cutRows (depth (suc n)) E (x ∷ y ∷ xs)) _
     (cutAgain-below (depth (suc n)) E one (length (x ∷ y ∷ xs)) (x ∷ y ∷ xs) c h)
     (cutAbove-below E one fuel (suc n) (parts (depth (suc n)) E (x ∷ y ∷ xs)) c (parts-cut (depth (suc n)) E c (x ∷ y ∷ xs) one h .closed))
 
@@ -180,9 +180,9 @@ module _ (E m : ℕ) (new : Replacement) (bs : List ℕ) (t : Tree) (one : 1 ≤
   rowsCut-below =
       let roots : List (Node (suc (t .0))) = insertBelow E new (suc (t .0)) bs 0 (t .1) in
       let o = insertBelow-inPlace E m new one (suc (t .0)) bs 0 (t .1) s a e q in
-      all-append (LastBelow (λ d. d)) (cutBelow E new (suc (t .0)) bs 0 (t .1)) (cutAbove E (length roots) (t .0) roots)
+      all-append (LastBelow itself) (cutBelow E new (suc (t .0)) bs 0 (t .1)) (cutAbove E (length roots) (t .0) roots)
       (cutBelow-below E m new one (suc (t .0)) bs 0 (t .1) s a e q) (cutAbove-below E one (length roots) (t .0) roots (depth (suc (t .0)) (t .1)) (o .closed))
 
   -- "In every row that insertion cuts, the place found is 01's."
   pub rowsCut-right : All RightPlace (rowsCut E new bs t)
-  rowsCut-right = all-weaker (LastBelow (λ d. d)) RightPlace (rowsCut E new bs t) (λ row h. quick-law (λ d. d) row h) rowsCut-below
+  rowsCut-right = all-weaker (LastBelow itself) RightPlace (rowsCut E new bs t) (λ row h. quick-law itself row h) rowsCut-below

@@ -1,6 +1,6 @@
 -- The places of a row, and what storing to them does to its entries. Assumes nothing.
 use mathlib.Core.Path.{_≡_, refl, sym, ap, _∙_}
-use mathlib.Core.List.{List, [], _∷_, _++_, zip, zipWith, append-assoc, append-nil}
+use mathlib.Core.List.{List, [], _∷_, _++_, map, zip, zipWith, append-assoc, append-nil}
 use Prim.Native.Nat.{ℕ, zero, suc, _+_, _-_, _≤_, _<_}
 use native.Mathlib.Omega.{arith}
 use native.Mathlib.Numerals.{add-one}
@@ -8,7 +8,7 @@ use lib.ListN.{length, getD, set, take, drop, length-set}
 use lib.Seq.{slice, take-suc, take-take, take-suc-set, take-set-lt, getD-take, drop-append-le, slice-empty, length-take-le}
 use Rattle.page_tree.specs.declared.Row.{Row}
 use Rattle.page_tree.specs.Rows.{lastDepth}
-use Rattle.page_tree.specs.Row.{Pair, places, rowOf, partOf}
+use Rattle.page_tree.specs.Row.{Pair, depthOf, places, rowOf, partOf}
 use Rattle.page_tree.proofs.ClosedRows.{lastDepth-append}
 
 -- The two arrays of a row have 319 elements each.
@@ -30,6 +30,14 @@ length-zip-of (suc n) (d ∷ ds) (p ∷ ps) h g = ap suc (length-zip-of n ds ps 
 -- A row has 319 places.
 pub length-zip : (ds ps : List ℕ) → Full ds ps → length (zip ds ps) ≡ 319
 length-zip ds ps h = length-zip-of 319 ds ps (h .0) (h .1)
+
+-- The depths of the first n pairs.
+pub depths-zip : (n : ℕ) (ds ps : List ℕ) → length ds ≡ length ps → map depthOf (take n (zip ds ps)) ≡ take n ds
+unfolding zip zipWith
+depths-zip zero ds ps h = refl
+depths-zip (suc n) [] ps h = refl
+depths-zip (suc n) (d ∷ ds) [] h = absurd (omega arith)
+depths-zip (suc n) (d ∷ ds) (p ∷ ps) h = ap (λ l. d ∷ l) (depths-zip n ds ps (omega arith))
 
 -- A store to both arrays stores a pair.
 pub zip-set : (ds ps : List ℕ) (i d p : ℕ) → zip (set ds i d) (set ps i p) ≡ set (zip ds ps) i (d, p)

@@ -7,6 +7,7 @@ use lib.Dec.{leb}
 use lib.ListN.{length}
 use Rattle.leaf_list.specs.Keys.{bits}
 use Rattle.leaf_list.specs.Search.{positions}
+use Rattle.page_tree.specs.Rows.{itself}
 use Rattle.page_tree.specs.Tree.{Node, depth, Tree}
 use Rattle.page_tree.specs.Cutting.{split, parts}
 use Rattle.page_tree.specs.QuickCut.{quickPlace}
@@ -15,7 +16,7 @@ use Rattle.page_tree.specs.OnPages.{Replacement, newEntries, replaceIn, 
 
 -- "the place found is 01's", of a row of depths
 abbrev pub RightPlace : List ℕ → Type 0
-RightPlace row = quickPlace (λ d. d) row ≡ length (split (λ d. d) row .1)
+RightPlace row = quickPlace itself row ≡ length (split itself row .1)
 
 module _ {A : Type 0} (depth : A → ℕ) where
   -- The rows cut where 01 cuts a row: the row itself, then "the left part first, then the right, .. while too long"; fuel as in cutting.

@@ -7,7 +7,7 @@ use lib.Seq.{slice}
 use Rattle.page_tree.specs.declared.Row.{Row}
 use Rattle.page_tree.specs.declared.Cut.{Cut}
 use Rattle.page_tree.specs.declared.Cuts.{Cuts}
-use Rattle.page_tree.specs.Rows.{lastDepth, LastBelow}
+use Rattle.page_tree.specs.Rows.{itself, lastDepth, LastBelow}
 use Rattle.page_tree.specs.Cutting.{parts}
 use Rattle.page_tree.specs.QuickCut.{tried, quickPlace}
 
@@ -44,22 +44,22 @@ endsOf from (xs ∷ xss) = (from + length xs) ∷ endsOf (from + length xs) xss
 abbrev pub endsIn : Cuts → List ℕ
 endsIn c = take (c .count) (c .ends)
 
--- Where a part of a row is cut, and how many entries the search tried: of every row.
-pub record SplitPost (row : Row) (from to : ℕ) (cut : Cut) : Type 0 where
-  pub place : cut .at ≡ from + quickPlace depthOf (partOf row from to)
-  pub count : cut .tried ≡ tried depthOf (lastDepth depthOf 0 (partOf row from to)) (partOf row from to)
+-- Where a part of a row of depths is cut, and how many entries the search tried: of every row.
+pub record SplitPost (depths : List ℕ) (from to : ℕ) (cut : Cut) : Type 0 where
+  pub place : cut .at ≡ from + quickPlace itself (slice from to depths)
+  pub count : cut .tried ≡ tried itself (lastDepth itself 0 (slice from to depths)) (slice from to depths)
 
--- A part of a row whose last depth is below all others is to be cut, with room for the ends of as many parts as there can be.
-pub record CutPre (e : ℕ) (row : Row) (from to : ℕ) (before : Cuts) : Type 0 where
+-- A part of a row of depths whose last is below all others is to be cut, with room for the ends of as many parts as there can be.
+pub record CutPre (e : ℕ) (depths : List ℕ) (from to : ℕ) (before : Cuts) : Type 0 where
   pub some : from < to
   pub within : to ≤ 319
   pub size : 1 ≤ e
   pub room : before .count + suc ((to - from) - e) ≤ 65
-  pub closed : LastBelow depthOf (partOf row from to)
+  pub closed : LastBelow itself (slice from to depths)
 
 -- The ends of the parts of a part stand behind the ends before.
-pub record CutPost (e : ℕ) (row : Row) (from to : ℕ) (before after : Cuts) : Type 0 where
-  pub ends : endsIn after ≡ endsIn before ++ endsOf from (parts depthOf e (partOf row from to))
+pub record CutPost (e : ℕ) (depths : List ℕ) (from to : ℕ) (before after : Cuts) : Type 0 where
+  pub ends : endsIn after ≡ endsIn before ++ endsOf from (parts itself e (slice from to depths))
   pub some : before .count < after .count
   pub few : after .count ≤ before .count + suc ((to - from) - e)
 

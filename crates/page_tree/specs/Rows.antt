@@ -18,6 +18,10 @@ abbrev pub sum : {A : Type 0} → (A → ℕ) → List A → ℕ
 sum f [] = 0
 sum f (x ∷ xs) = f x + sum f xs
 
+-- A depth as a thing that has it: rows of depths are rows too.
+abbrev pub itself : ℕ → ℕ
+itself d = d
+
 module _ {A : Type 0} (depth : A → ℕ) where
   -- Every depth is above c.
   abbrev pub Deeper : ℕ → List A → Type 0

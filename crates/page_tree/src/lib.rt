@@ -1,7 +1,7 @@
 // Pages as rows: the row that is changed and cut, and what deletion asks of the entry before.
 ghost use mathlib.Core.Path.{_≡_};
 ghost use mathlib.Core.List.{[], _∷_, _++_};
-ghost use Prim.Native.Nat.{_+_, _-_, _≤_, _<_};
+ghost use Prim.Native.Nat.{_+_, _-_, _≤_, _<_, max};
 ghost use lib.ListN.{getD, set};
 ghost use Rattle.page_tree.specs.Rows.{LastBelow};
 ghost use Rattle.page_tree.specs.Row.{depthOf, rowOf, partOf, Holds, SplitPost, CutPre, CutPost, CutsPost};
@@ -105,8 +105,9 @@ impl Row {
         ensures { λ r. ⌜ CutsPost e self r ⌝ }
     {
         let n = self.count;
+        let depths = self.depths;
         cut_part(
-            self,
+            depths,
             e,
             0,
             n,
@@ -131,39 +132,54 @@ pub struct Cut {
     pub tried: usize,
 }
 
+// The search passes depths from this one on: they are no shallower than the least so far, and do not stop it.
+fn passed_from(least: usize, above: usize) -> usize
+    requires { ⌜ above ≤ 256 ⌝ }
+    ensures { λ r. ⌜ r ≡ max least (above + 1) ⌝ }
+{
+    if least <= above { above + 1 } else { least }
+}
+
 // Finds where the entries from one place up to another are cut: past the first whose depth is one above the last one's, where the search stops,
 // or else past the first shallowest, the last left out of the choice.
-pub fn split_at(row: Row, from: usize, to: usize) -> Cut
+pub fn split_at(depths: [u8; 319], from: usize, to: usize) -> Cut
     requires { ⌜ (from + 2 ≤ to) × (to ≤ 319) ⌝ }
-    ensures { λ r. ⌜ SplitPost row from to r ⌝ }
+    ensures { λ r. ⌜ SplitPost depths from to r ⌝ }
 {
     let end = to - 1;
-    let above = wide(row.depths[end]) + 1;
-    let mut best = from;
+    let above = wide(depths[end]) + 1;
+    let mut at = from + 1;
+    let mut least = wide(depths[from]);
+    let mut limit = passed_from(least, above);
     let mut i = from;
     while i < end {
-        let d = row.depths[i];
-        if wide(d) == above {
-            return Cut {
-                at: i + 1,
-                tried: i + 1 - from,
-            };
+        let d = wide(depths[i]);
+        let next = i + 1;
+        if d < limit {
+            if d == above {
+                return Cut {
+                    at: next,
+                    tried: next - from,
+                };
+            }
+            if d < least {
+                at = next;
+                least = d;
+                limit = passed_from(d, above);
+            }
         }
-        if d < row.depths[best] {
-            best = i;
-        }
-        i += 1;
+        i = next;
     }
     Cut {
-        at: best + 1,
+        at: at,
         tried: end - from,
     }
 }
 
 // The ends of the parts of the entries from one place up to another, behind the ends before.
-fn cut_part(row: Row, e: u8, from: usize, to: usize, before: Cuts) -> Cuts
-    requires { ⌜ CutPre e row from to before ⌝ }
-    ensures { λ r. ⌜ CutPost e row from to before r ⌝ }
+fn cut_part(depths: [u8; 319], e: u8, from: usize, to: usize, before: Cuts) -> Cuts
+    requires { ⌜ CutPre e depths from to before ⌝ }
+    ensures { λ r. ⌜ CutPost e depths from to before r ⌝ }
 {
     if to - from <= wide(e) {
         let mut c = before;
@@ -172,7 +188,7 @@ fn cut_part(row: Row, e: u8, from: usize, to: usize, before: Cuts) -> Cuts
         c.count = n + 1;
         return c;
     }
-    let m = split_at(row, from, to).at;
-    let left = cut_part(row, e, from, m, before);
-    cut_part(row, e, m, to, left)
+    let m = split_at(depths, from, to).at;
+    let left = cut_part(depths, e, from, m, before);
+    cut_part(depths, e, m, to, left)
 }

@@ -43,7 +43,7 @@ module _ (t : ℕ) where
   add-c c = search needs
 
   returns : lts.Need-returns claims at cut-part.Post
-  returns c = cut-one _ (search needs, search needs) (c .before .before .pre .1) (search needs) (omega (arith, c .before .wide .ensures .0))
+  returns c = cut-one _ (search needs) (c .before .before .pre .1) (search needs) (omega (arith, c .before .wide .ensures .0))
 
   split-at-requires : lts.Need-split-at-requires claims at cut-part.Post
   split-at-requires c κs = let pre = c .before .before .pre .1 in omega (arith, pre .size, pre .within, c .before .wide .ensures .0)
@@ -52,19 +52,19 @@ module _ (t : ℕ) where
   cut-part-requires c κs =
       let start = c .before .before .before in
       let same-size = c .before .before .wide .ensures .0 in
-      let inside = cut-inside (start .args .row) (search needs, search needs) (start .pre .1) (omega arith) _ (c .split-at .ensures) in
+      let inside = cut-inside _ (search needs) (start .pre .1) (omega arith) _ (c .split-at .ensures) in
       (omega (arith, start .pre .0), inside .left-part)
 
   cut-part-requires-2 : lts.Need-cut-part-requires-2 claims at cut-part.Post
   cut-part-requires-2 c κs =
       let start = c .before .before .before .before in
       let same-size = c .before .before .before .wide .ensures .0 in
-      let inside = cut-inside (start .args .row) (search needs, search needs) (start .pre .1) (omega arith) _ (c .before .split-at .ensures) in
+      let inside = cut-inside _ (search needs) (start .pre .1) (omega arith) _ (c .before .split-at .ensures) in
       (omega (arith, start .pre .0), inside .right-part _ (c .cut-part .ensures))
 
   returns-2 : lts.Need-returns-2 claims at cut-part.Post
   returns-2 c =
-      cut-both _ (search needs, search needs) (c .before .before .before .before .before .pre .1)
+      cut-both _ (search needs) (c .before .before .before .before .before .pre .1)
       (omega (arith, c .before .before .before .before .wide .ensures .0)) _ (c .before .before .split-at .ensures) _ _
       (c .before .cut-part .ensures) (c .cut-part2 .ensures)
 

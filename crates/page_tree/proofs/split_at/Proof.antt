@@ -1,26 +1,25 @@
 -- `page_tree::split_at` meets its contract: each turn tries one entry more. Assumes nothing.
 use mathlib.Core.Path.{_≡_, refl}
-use mathlib.Core.Logic.{⊎-elim, inl, inr}
-use Prim.Native.Nat.{_+_, _-_}
+use Prim.Native.Nat.{_+_, _-_, _≤_, max}
 use borrow.Author.Needs.{needs}
 use native.Mathlib.Omega.{arith}
 use lib.ListN.{getD}
-use Rattle.page_tree.proofs.QuickSearchLaws.{TryingRow, row-begun, row-next, row-met, row-all}
+use Rattle.page_tree.proofs.QuickSearchLaws.{Trying, trying-begun, trying-better, trying-on, trying-met, trying-all}
 use Rattle.page_tree.proofs.split_at.Statement.{statement}
 use Rattle.page_tree.proofs.split_at.Tie as tie
 
 abbrev Inv-loop : tie.InvT-loop
-Inv-loop from to row end above best₀ i₀ best i =
-    (end ≡ to - 1) × (above ≡ getD (row .depths) (to - 1) 0 + 1) × TryingRow (row .depths) (row .pointers) from to i best
+Inv-loop from to depths end above at₀ least₀ limit₀ i₀ at least limit i =
+    (end ≡ to - 1) × (above ≡ getD depths (to - 1) 0 + 1) × (above ≤ 256) × (limit ≡ max least (above + 1)) × Trying depths from to (getD depths (to - 1) 0) i at least
 
 abbrev μ-loop : tie.MeasureT-loop
-μ-loop from to row end above best₀ i₀ best i = end - i
+μ-loop from to depths end above at₀ least₀ limit₀ i₀ at least limit i = end - i
 
 sub-end : tie.Need-sub-end Inv-loop μ-loop
 sub-end c = search needs
 
-element-copy-out-wide : tie.Need-element-copy-out-wide Inv-loop μ-loop
-element-copy-out-wide c = search needs
+array-read-wide : tie.Need-array-read-wide Inv-loop μ-loop
+array-read-wide c = search needs
 
 wide-requires : tie.Need-wide-requires Inv-loop μ-loop
 wide-requires c κs = search needs
@@ -28,58 +27,90 @@ wide-requires c κs = search needs
 add-above : tie.Need-add-above Inv-loop μ-loop
 add-above c = search needs
 
-loop-holds : tie.Need-loop-holds Inv-loop μ-loop
-loop-holds c = (refl, omega (arith, c .wide .ensures .0), row-begun _ _ (search needs, search needs) _ _ (omega arith) (omega arith))
+add-at : tie.Need-add-at Inv-loop μ-loop
+add-at c = search needs
 
-element-copy-out-d : tie.Need-element-copy-out-d Inv-loop μ-loop
-element-copy-out-d c = search needs
+array-read-wide-2 : tie.Need-array-read-wide-2 Inv-loop μ-loop
+array-read-wide-2 c = search needs
 
 wide-requires-2 : tie.Need-wide-requires-2 Inv-loop μ-loop
 wide-requires-2 c κs = search needs
 
-add-t19 : tie.Need-add-t19 Inv-loop μ-loop
-add-t19 c = search needs
+passed-from-requires : tie.Need-passed-from-requires Inv-loop μ-loop
+passed-from-requires c κs = search needs
 
-add-t20 : tie.Need-add-t20 Inv-loop μ-loop
-add-t20 c = search needs
+loop-holds : tie.Need-loop-holds Inv-loop μ-loop
+loop-holds c =
+    let last = c .before .before .wide .ensures in (
+      refl,
+      omega (arith, last .0),
+      omega (arith, last .1),
+      c .passed-from .ensures,
+      trying-begun _ _ _ _ _ (c .before .wide2 .ensures .0) (omega arith) (search needs),
+    )
 
-sub-t21 : tie.Need-sub-t21 Inv-loop μ-loop
-sub-t21 c = search needs
+array-read-wide-3 : tie.Need-array-read-wide-3 Inv-loop μ-loop
+array-read-wide-3 c = search needs
+
+wide-requires-3 : tie.Need-wide-requires-3 Inv-loop μ-loop
+wide-requires-3 c κs = search needs
+
+add-next : tie.Need-add-next Inv-loop μ-loop
+add-next c = search needs
+
+sub-t24 : tie.Need-sub-t24 Inv-loop μ-loop
+sub-t24 c = search needs
 
 returns : tie.Need-returns Inv-loop μ-loop
 returns c =
-    let inv = c .before .before .before .before .loop .inv in
-    let met =
-    row-met _ _ (search needs, search needs) _ _ (omega arith) _ _ _ _ (inv .2) (omega arith) (inv .1) refl (omega (arith, c .before .wide2 .ensures .0)) in
+    let turn = c .before .before .before .before in
+    let inv = turn .loop .inv in
+    let met = trying-met _ _ _ _ _ _ (inv .4) (omega arith) _ (c .before .before .wide3 .ensures .0) (omega (arith, inv .1, c .if2 .taken)) in
     record { place = omega (arith, met .0); count = omega (arith, met .1) }
 
-element-copy-out-if2 : tie.Need-element-copy-out-if2 Inv-loop μ-loop
-element-copy-out-if2 c = search needs
-
-add-i : tie.Need-add-i Inv-loop μ-loop
-add-i c = search needs
+passed-from-requires-2 : tie.Need-passed-from-requires-2 Inv-loop μ-loop
+passed-from-requires-2 c κs = search needs
 
 loop-less : tie.Need-loop-less Inv-loop μ-loop
 loop-less c = search needs
 
 loop-again : tie.Need-loop-again Inv-loop μ-loop
 loop-again c =
+    let tried = c .before .before .before .before in
+    let inv = tried .before .before .loop .inv in
+    (refl, inv .1, inv .2, c .passed-from2 .ensures, trying-better _ _ _ _ _ _ _ (inv .4) (omega arith) _ (tried .wide3 .ensures .0) (λ e. c .before .before .if2 .left (omega (arith, e, inv .1))) (omega (arith, c .before .if3 .taken)))
+
+loop-less-2 : tie.Need-loop-less-2 Inv-loop μ-loop
+loop-less-2 c = search needs
+
+loop-again-2 : tie.Need-loop-again-2 Inv-loop μ-loop
+loop-again-2 c =
     let tried = c .before .before .before in
-    let inv = tried .before .before .before .loop .inv in
-    let next =
-    row-next _ _ (search needs, search needs) _ _ (omega arith) _ _ _ _ (inv .2) (omega arith) (inv .1) refl (λ e. omega (arith, e, tried .wide2 .ensures .0)) _
-    (⊎-elim (λ w. inl (omega (arith, w .0 .taken), w .1)) (λ w. inr (omega (arith, w .0 .left), w .1)) (c .if2 .came)) in
-    (refl, inv .1, next)
+    let inv = tried .before .before .loop .inv in
+    (refl, inv .1, inv .2, inv .3, trying-on _ _ _ _ _ _ _ (inv .4) (omega arith) _ (tried .wide3 .ensures .0) (λ e. c .before .if2 .left (omega (arith, e, inv .1))) (omega (arith, c .if3 .left)))
 
-add-t10 : tie.Need-add-t10 Inv-loop μ-loop
-add-t10 c = search needs
+loop-less-3 : tie.Need-loop-less-3 Inv-loop μ-loop
+loop-less-3 c = search needs
 
-sub-t24 : tie.Need-sub-t24 Inv-loop μ-loop
-sub-t24 c = search needs
+loop-again-3 : tie.Need-loop-again-3 Inv-loop μ-loop
+loop-again-3 c =
+    let tried = c .before in
+    let inv = tried .before .before .loop .inv in
+    let deep = c .if1 .left in (
+      refl,
+      inv .1,
+      inv .2,
+      inv .3,
+      trying-on _ _ _ _ _ _ _ (inv .4) (omega arith) _ (tried .wide3 .ensures .0) (λ e. omega (arith, e, inv .1, inv .3, deep)) (omega (arith, inv .3, deep)),
+    )
+
+sub-t13 : tie.Need-sub-t13 Inv-loop μ-loop
+sub-t13 c = search needs
 
 returns-2 : tie.Need-returns-2 Inv-loop μ-loop
 returns-2 c =
-    let all = row-all _ _ (search needs, search needs) _ _ (omega arith) _ _ (c .before .loop .inv .2) (omega arith) in
+    let inv = c .before .loop .inv in
+    let all = trying-all _ _ _ _ _ _ (inv .4) (omega (arith, inv .4 .high)) in
     record { place = omega (arith, all .0); count = omega (arith, all .1) }
 
 pub split-at-spec : {M : Type 1} → statement M
@@ -89,20 +120,25 @@ split-at-spec =
     Inv-loop
     μ-loop
     sub-end
-    element-copy-out-wide
+    array-read-wide
     wide-requires
     add-above
-    loop-holds
-    element-copy-out-d
+    add-at
+    array-read-wide-2
     wide-requires-2
-    add-t19
-    add-t20
-    sub-t21
+    passed-from-requires
+    loop-holds
+    array-read-wide-3
+    wide-requires-3
+    add-next
+    sub-t24
     returns
-    element-copy-out-if2
-    add-i
+    passed-from-requires-2
     loop-less
     loop-again
-    add-t10
-    sub-t24
+    loop-less-2
+    loop-again-2
+    loop-less-3
+    loop-again-3
+    sub-t13
     returns-2)
