@@ -48,11 +48,8 @@ module _ {A : Type 0} (depth : A → ℕ) where
   -- "In every row that insertion cuts, the place found is 01's": in every row whose last depth is below all others.
   pub quick-law : (row : List A) → LastBelow depth row → quickPlace depth row ≡ length (split depth row .1)
   unfolding quickPlace
-  quick-law row h = go (meets depth c row) refl
+  quick-law row h = go (meets depth (lastDepth depth 0 row) row) refl
     where
-      c : ℕ
-      c = lastDepth depth 0 row
-
-      go : (t : Bool) → meets depth c row ≡ t → cond (meets depth c row) (tried depth c row) (length (split depth row .1)) ≡ length (split depth row .1)
-      go true e = rw e (sym (met-place c row h e .1))
+      go : (t : Bool) → meets depth (lastDepth depth 0 row) row ≡ t → quickPlace depth row ≡ length (split depth row .1)
+      go true e = rw e (sym (met-place (lastDepth depth 0 row) row h e .1))
       go false e = rw e refl

@@ -43,7 +43,8 @@ module _ {A : Type 0} (depth : A → ℕ) where
       go : (t : Bool) → ltb (depth x) m ≡ t → (b : Bool) → leb (depth x) (split depth row .0) ≡ b
           → pick (depth x) (suc i) (suc i) row ≡ cond (ltb (split depth row .0) (depth x)) (suc i + length (split depth row .1)) (suc i)
           → pick m p (suc i) row ≡ cond (ltb (split depth row .0) m) (suc i + length (split depth row .1)) p
-          → cond t (pick (depth x) (suc i) (suc i) row) (pick m p (suc i) row) ≡ cond (ltb (split depth (x ∷ row) .0) m) (i + length (split depth (x ∷ row) .1)) p
+          → cond t (pick (depth x) (suc i) (suc i) row) (pick m p (suc i) row)
+          ≡ cond (ltb (split depth (x ∷ row) .0) m) (i + length (split depth (x ∷ row) .1)) p
       go true e true f here on =
           let k = leb-true (depth x) (split depth row .0) f in
           rw (split-here depth x row long k, e, here, le-ltb (split depth row .0) (depth x) k) (omega arith)
@@ -169,7 +170,8 @@ module _ (ds : List ℕ) (from to : ℕ) where
   trying-all i at least h e =
       let last = last-slice itself 0 0 ds from to (omega (arith, h .low)) (h .within) in
       let one : slice i to ds ≡ getD ds i 0 ∷ [] =
-      slice-cons i to ds 0 (h .high) (h .within) ∙ ap (λ (k : ℕ). getD ds i 0 ∷ slice k to ds) (sym (add-one i) ∙ e) ∙ ap (λ l. getD ds i 0 ∷ l) (slice-empty to ds) in
+      slice-cons i to ds 0 (h .high) (h .within) ∙ ap (λ (k : ℕ). getD ds i 0 ∷ slice k to ds) (sym (add-one i) ∙ e)
+      ∙ ap (λ l. getD ds i 0 ∷ l) (slice-empty to ds) in
       let none : meets itself (getD ds (to - 1) 0) (slice from to ds) ≡ false = h .met ∙ rw one refl in
       let place : from + length (split itself (slice from to ds) .1) ≡ at = h .place ∙ rw one refl in
       rw (last, none) (sym place, sym (h .count ∙ rw one (omega (arith, h .low))))

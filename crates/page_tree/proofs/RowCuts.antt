@@ -145,7 +145,8 @@ module _ (e : ℕ) (row : Row) (full : Full (row .depths) (row .pointers)) where
     room = omega arith;
     closed =
         rw (← row-depths)
-        (closed-below itself (lastDepth depthOf 0 (rowOf row)) (map depthOf (rowOf row)) (closed-map depthOf itself depthOf (lastDepth depthOf 0 (rowOf row)) (rowOf row) own-depths closed));
+        (closed-below itself (lastDepth depthOf 0 (rowOf row)) (map depthOf (rowOf row))
+        (closed-map depthOf itself depthOf (lastDepth depthOf 0 (rowOf row)) (rowOf row) own-depths closed));
   }
 
   -- The ends are those of its parts.

@@ -132,7 +132,7 @@ pub struct Cut {
     pub tried: usize,
 }
 
-// The search passes depths from this one on: they are no shallower than the least so far, and do not stop it.
+// Gives the first depth that the search passes: from it on a depth is no shallower than the least so far, and does not stop it.
 fn passed_from(least: usize, above: usize) -> usize
     requires { ⌜ above ≤ 256 ⌝ }
     ensures { λ r. ⌜ r ≡ max least (above + 1) ⌝ }
@@ -171,7 +171,7 @@ pub fn split_at(depths: [u8; 319], from: usize, to: usize) -> Cut
         i = next;
     }
     Cut {
-        at: at,
+        at,
         tried: end - from,
     }
 }

@@ -10,7 +10,8 @@ use Rattle.page_tree.proofs.split_at.Tie as tie
 
 abbrev Inv-loop : tie.InvT-loop
 Inv-loop from to depths end above at₀ least₀ limit₀ i₀ at least limit i =
-    (end ≡ to - 1) × (above ≡ getD depths (to - 1) 0 + 1) × (above ≤ 256) × (limit ≡ max least (above + 1)) × Trying depths from to (getD depths (to - 1) 0) i at least
+    (end ≡ to - 1) × (above ≡ getD depths (to - 1) 0 + 1) × (above ≤ 256) × (limit ≡ max least (above + 1))
+    × Trying depths from to (getD depths (to - 1) 0) i at least
 
 abbrev μ-loop : tie.MeasureT-loop
 μ-loop from to depths end above at₀ least₀ limit₀ i₀ at least limit i = end - i
@@ -77,8 +78,14 @@ loop-less c = search needs
 loop-again : tie.Need-loop-again Inv-loop μ-loop
 loop-again c =
     let tried = c .before .before .before .before in
-    let inv = tried .before .before .loop .inv in
-    (refl, inv .1, inv .2, c .passed-from2 .ensures, trying-better _ _ _ _ _ _ _ (inv .4) (omega arith) _ (tried .wide3 .ensures .0) (λ e. c .before .before .if2 .left (omega (arith, e, inv .1))) (omega (arith, c .before .if3 .taken)))
+    let inv = tried .before .before .loop .inv in (
+      refl,
+      inv .1,
+      inv .2,
+      c .passed-from2 .ensures,
+      trying-better _ _ _ _ _ _ _ (inv .4) (omega arith) _ (tried .wide3 .ensures .0) (λ e. c .before .before .if2 .left (omega (arith, e, inv .1)))
+          (omega (arith, c .before .if3 .taken)),
+    )
 
 loop-less-2 : tie.Need-loop-less-2 Inv-loop μ-loop
 loop-less-2 c = search needs
@@ -86,8 +93,14 @@ loop-less-2 c = search needs
 loop-again-2 : tie.Need-loop-again-2 Inv-loop μ-loop
 loop-again-2 c =
     let tried = c .before .before .before in
-    let inv = tried .before .before .loop .inv in
-    (refl, inv .1, inv .2, inv .3, trying-on _ _ _ _ _ _ _ (inv .4) (omega arith) _ (tried .wide3 .ensures .0) (λ e. c .before .if2 .left (omega (arith, e, inv .1))) (omega (arith, c .if3 .left)))
+    let inv = tried .before .before .loop .inv in (
+      refl,
+      inv .1,
+      inv .2,
+      inv .3,
+      trying-on _ _ _ _ _ _ _ (inv .4) (omega arith) _ (tried .wide3 .ensures .0) (λ e. c .before .if2 .left (omega (arith, e, inv .1)))
+          (omega (arith, c .if3 .left)),
+    )
 
 loop-less-3 : tie.Need-loop-less-3 Inv-loop μ-loop
 loop-less-3 c = search needs
