@@ -7,10 +7,16 @@ use native.Mathlib.Omega.{arith}
 use lib.Dec.{eqb}
 use lib.ListN.{length}
 use borrow.Author.Tests.{eqb-true, eqb-false}
-use Rattle.page_tree.specs.Rows.{Closed, lastDepth, LastBelow}
+use Rattle.page_tree.specs.Rows.{itself, Closed, lastDepth, LastBelow}
 use Rattle.page_tree.specs.Cutting.{split}
 use Rattle.page_tree.specs.QuickCut.{tried, meets, quickPlace}
 use Rattle.page_tree.proofs.Splitting.{split-here, split-on, split-closed}
+
+-- In depths 3 2 4 2 1 the search stops at the second of five; in 5 3 4 3 1 none is 2, and the first 3 is the place.
+pub quick-examples : (quickPlace itself (3 ∷ 2 ∷ 4 ∷ 2 ∷ 1 ∷ []) ≡ 2) × (tried itself 1 (3 ∷ 2 ∷ 4 ∷ 2 ∷ 1 ∷ []) ≡ 2)
+    × (quickPlace itself (5 ∷ 3 ∷ 4 ∷ 3 ∷ 1 ∷ []) ≡ 2) × (tried itself 1 (5 ∷ 3 ∷ 4 ∷ 3 ∷ 1 ∷ []) ≡ 4)
+unfolding quickPlace meets tried split
+quick-examples = (refl, refl, refl, refl)
 
 module _ {A : Type 0} (depth : A → ℕ) where
   -- The shallowest has the depth c + 1, and the left part is as long as the search tried.

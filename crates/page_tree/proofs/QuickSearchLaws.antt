@@ -132,9 +132,9 @@ module _ (ds : List ℕ) (from to : ℕ) where
       next-count = h .count ∙ rw (two, one, ne-eqb d (suc c) far) (omega (arith, h .low))
 
       -- The entry is shallower than the least so far,
-      pub trying-better : d < least → Trying ds from to c (i + 1) (i + 1) d
+      pub trying-better : d < least → (past : ℕ) → past ≡ i + 1 → Trying ds from to c (i + 1) past d
       unfolding pick
-      trying-better l = rw (add-one i) (record {
+      trying-better l past past-is = rw (past-is, add-one i) (record {
         low = omega (arith, h .low);
         high = omega arith;
         within = h .within;

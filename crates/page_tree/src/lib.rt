@@ -134,7 +134,7 @@ pub struct Cut {
 
 // Gives the first depth that the search passes: from it on a depth is no shallower than the least so far, and does not stop it.
 fn passed_from(least: usize, above: usize) -> usize
-    requires { ⌜ above ≤ 256 ⌝ }
+    requires { ⌜ above ≤ 65535 ⌝ }
     ensures { λ r. ⌜ r ≡ max least (above + 1) ⌝ }
 {
     if least <= above { above + 1 } else { least }

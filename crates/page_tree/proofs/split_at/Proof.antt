@@ -10,7 +10,7 @@ use Rattle.page_tree.proofs.split_at.Tie as tie
 
 abbrev Inv-loop : tie.InvT-loop
 Inv-loop from to depths end above at₀ least₀ limit₀ i₀ at least limit i =
-    (end ≡ to - 1) × (above ≡ getD depths (to - 1) 0 + 1) × (above ≤ 256) × (limit ≡ max least (above + 1))
+    (end ≡ to - 1) × (above ≡ getD depths (to - 1) 0 + 1) × (above ≤ 65535) × (limit ≡ max least (above + 1))
     × Trying depths from to (getD depths (to - 1) 0) i at least
 
 abbrev μ-loop : tie.MeasureT-loop
@@ -84,7 +84,7 @@ loop-again c =
       inv .2,
       c .passed-from2 .ensures,
       trying-better _ _ _ _ _ _ _ (inv .4) (omega arith) _ (tried .wide3 .ensures .0) (λ e. c .before .before .if2 .left (omega (arith, e, inv .1)))
-          (omega (arith, c .before .if3 .taken)),
+          (omega (arith, c .before .if3 .taken)) _ (omega arith),
     )
 
 loop-less-2 : tie.Need-loop-less-2 Inv-loop μ-loop
