@@ -158,7 +158,7 @@ cutAbove-pages E (suc fuel) n (x ∷ y ∷ xs) =
       cutAgain-parts (depth (suc n)) E (length (x ∷ y ∷ xs)) (x ∷ y ∷ xs),
     )
 
--- No row is left out: an insertion takes one page for each row that it cuts, and one for each new level.
+-- As many are named as there are cuts: an insertion takes one page for each of these rows, and one for each new level.
 pub rowsCut-pages : (E : ℕ) (new : Replacement) (bs : List ℕ) (t : Tree) → 1 ≤ E
     → pagesOf (insertTree E new bs t) + t .0 ≡ (pagesOf t + length (rowsCut E new bs t)) + insertTree E new bs t .0
 rowsCut-pages E new bs t one =

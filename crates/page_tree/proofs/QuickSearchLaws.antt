@@ -96,16 +96,16 @@ pub record Trying (ds : List ℕ) (from to c i at least : ℕ) : Type 0 where
 
 module _ (ds : List ℕ) (from to : ℕ) where
   -- At the first entry.
-  pub trying-begun : (c least : ℕ) → least ≡ getD ds from 0 → from + 2 ≤ to → to ≤ length ds → Trying ds from to c from (from + 1) least
-  trying-begun c least is h g = record {
+  pub trying-begun : (c least : ℕ) → least ≡ getD ds from 0 → from + 2 ≤ to → to ≤ 319 → length ds ≡ 319 → Trying ds from to c from (from + 1) least
+  trying-begun c least is h g full = record {
     low = omega arith;
     high = omega arith;
-    within = g;
+    within = omega arith;
     met = refl;
     count = omega arith;
     place =
-        rw (is, add-one from, slice-cons from to ds 0 (omega arith) g)
-        (sym (pick-first itself (getD ds from 0) (slice (suc from) to ds) from (omega (arith, length-slice (suc from) to ds g))));
+        rw (is, add-one from, slice-cons from to ds 0 (omega arith) (omega arith))
+        (sym (pick-first itself (getD ds from 0) (slice (suc from) to ds) from (omega (arith, length-slice (suc from) to ds (omega arith)))));
   }
 
   module _ (c i at least : ℕ) (h : Trying ds from to c i at least) (inside : i + 1 < to) (d : ℕ) (is : d ≡ getD ds i 0) where

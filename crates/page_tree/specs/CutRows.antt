@@ -27,14 +27,14 @@ module _ {A : Type 0} (depth : A → ℕ) where
   abbrev pub cutRows : ℕ → List A → List (List ℕ)
   cutRows E row = cutAgain E (length row) row
 
--- Those below an entry, and of the page itself with what stands in the place of the entry found (`insertBelow`).
+-- The rows cut below an entry, and then the page's own, with what stands in the place of the entry found (`insertBelow`).
 abbrev pub cutBelow : ℕ → Replacement → (n : ℕ) → List ℕ → ℕ → Node n → List (List ℕ)
 cutBelow E new zero bs τ e = []
 cutBelow E new (suc n) bs τ page =
     walk (depth n) (λ bs τ x xs. cutBelow E new n bs τ x) (λ x r. r) [] bs τ page
     ++ cutRows (depth n) E (replaceIn (depth n) (insertBelow E new n) bs τ page)
 
--- Those of new roots (`grow`).
+-- The rows cut in new roots (`grow`).
 abbrev pub cutAbove : ℕ → ℕ → (n : ℕ) → List (Node (suc n)) → List (List ℕ)
 cutAbove E zero n xs = []
 cutAbove E (suc fuel) n [] = []
@@ -47,6 +47,6 @@ rowsCut E new bs t =
     let roots : List (Node (suc (t .0))) = insertBelow E new (suc (t .0)) bs 0 (t .1) in
     cutBelow E new (suc (t .0)) bs 0 (t .1) ++ cutAbove E (length roots) (t .0) roots
 
--- Those of an on (`onTree`).
+-- The rows that an on cuts (`onTree`).
 abbrev pub onRowsCut : ℕ → ℕ → (ℕ → ℕ) → ℕ → ℕ → Tree → List (List ℕ)
 onRowsCut w E keyOf key r t = rowsCut E (newEntries (λ x. bits w (keyOf x)) (bits w key) r) (positions 0 (bits w key)) t

@@ -20,6 +20,6 @@ module _ {A : Type 0} (depth : A → ℕ) where
   tried c (x ∷ []) = 0
   tried c (x ∷ y ∷ ys) = cond (eqb (depth x) (suc c)) 1 (suc (tried c (y ∷ ys)))
 
-  -- The place, as the length of the left part: "It stops at the first depth one above the page's last", else past the shallowest, as 01 cuts.
+  -- The place, as the length of the left part: past the entry where "It stops" or, where none is met, past the shallowest, as 01 cuts.
   unfoldable pub quickPlace : List A → ℕ
   quickPlace row = cond (meets (lastDepth depth 0 row) row) (tried (lastDepth depth 0 row) row) (length (split depth row .1))

@@ -1,4 +1,5 @@
--- A row by value as a list of entries, and the ends of its parts (01, "the row being split holds at most 319 entries"). Assumes nothing.
+-- A row by value as a list of entries, where it is cut, and the ends of its parts (01, "the row being split holds at most 319 entries"; 02, iii).
+-- Assumes nothing.
 use mathlib.Core.Path.{_≡_}
 use mathlib.Core.List.{List, [], _∷_, _++_, zip}
 use Prim.Native.Nat.{ℕ, suc, _+_, _-_, _≤_, _<_}
@@ -44,7 +45,7 @@ endsOf from (xs ∷ xss) = (from + length xs) ∷ endsOf (from + length xs) xss
 abbrev pub endsIn : Cuts → List ℕ
 endsIn c = take (c .count) (c .ends)
 
--- Where a part of a row of depths is cut, and how many entries the search tried: of every row.
+-- What the search gives, of every row: where a part of a row of depths is cut, and how many of its entries were tried.
 pub record SplitPost (depths : List ℕ) (from to : ℕ) (cut : Cut) : Type 0 where
   pub place : cut .at ≡ from + quickPlace itself (slice from to depths)
   pub count : cut .tried ≡ tried itself (lastDepth itself 0 (slice from to depths)) (slice from to depths)

@@ -18,7 +18,7 @@ abbrev pub sum : {A : Type 0} → (A → ℕ) → List A → ℕ
 sum f [] = 0
 sum f (x ∷ xs) = f x + sum f xs
 
--- A depth as a thing that has it: rows of depths are rows too.
+-- A depth has itself for its depth: a list of depths is a row too.
 abbrev pub itself : ℕ → ℕ
 itself d = d
 

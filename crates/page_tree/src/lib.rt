@@ -105,9 +105,8 @@ impl Row {
         ensures { λ r. ⌜ CutsPost e self r ⌝ }
     {
         let n = self.count;
-        let depths = self.depths;
         cut_part(
-            depths,
+            self,
             e,
             0,
             n,
@@ -126,37 +125,38 @@ fn wide(x: u8) -> usize
     x as usize
 }
 
-// Where a row is cut, past the entry found, and how many entries the search tried.
+// Where a row is cut, counted from its first entry, and how many entries of the part the search tried.
 pub struct Cut {
     pub at: usize,
     pub tried: usize,
 }
 
-// Gives the first depth that the search passes: from it on a depth is no shallower than the least so far, and does not stop it.
-fn passed_from(least: usize, above: usize) -> usize
-    requires { ⌜ above ≤ 65535 ⌝ }
-    ensures { λ r. ⌜ r ≡ max least (above + 1) ⌝ }
+// Gives the depth from which on one comparison passes an entry: such a one is no shallower than the least so far, and deeper than the depth that
+// stops the search.
+fn passed_from(least: usize, stop: usize) -> usize
+    requires { ⌜ stop ≤ 65535 ⌝ }
+    ensures { λ r. ⌜ r ≡ max least (stop + 1) ⌝ }
 {
-    if least <= above { above + 1 } else { least }
+    if least <= stop { stop + 1 } else { least }
 }
 
-// Finds where the entries from one place up to another are cut: past the first whose depth is one above the last one's, where the search stops,
-// or else past the first shallowest, the last left out of the choice.
-pub fn split_at(depths: [u8; 319], from: usize, to: usize) -> Cut
+// Finds where the entries from one place up to another are cut, and how many the search tried: it stops past the first whose depth is one above the
+// last one's; where none is met, the cut is past the first shallowest, the last left out of the choice.
+pub fn split_at(row: Row, from: usize, to: usize) -> Cut
     requires { ⌜ (from + 2 ≤ to) × (to ≤ 319) ⌝ }
-    ensures { λ r. ⌜ SplitPost depths from to r ⌝ }
+    ensures { λ r. ⌜ SplitPost (row .depths) from to r ⌝ }
 {
     let end = to - 1;
-    let above = wide(depths[end]) + 1;
+    let stop = wide(row.depths[end]) + 1;
     let mut at = from + 1;
-    let mut least = wide(depths[from]);
-    let mut limit = passed_from(least, above);
+    let mut least = wide(row.depths[from]);
+    let mut limit = passed_from(least, stop);
     let mut i = from;
     while i < end {
-        let d = wide(depths[i]);
+        let d = wide(row.depths[i]);
         let next = i + 1;
         if d < limit {
-            if d == above {
+            if d == stop {
                 return Cut {
                     at: next,
                     tried: next - from,
@@ -165,7 +165,7 @@ pub fn split_at(depths: [u8; 319], from: usize, to: usize) -> Cut
             if d < least {
                 at = next;
                 least = d;
-                limit = passed_from(d, above);
+                limit = passed_from(d, stop);
             }
         }
         i = next;
@@ -177,9 +177,9 @@ pub fn split_at(depths: [u8; 319], from: usize, to: usize) -> Cut
 }
 
 // The ends of the parts of the entries from one place up to another, behind the ends before.
-fn cut_part(depths: [u8; 319], e: u8, from: usize, to: usize, before: Cuts) -> Cuts
-    requires { ⌜ CutPre e depths from to before ⌝ }
-    ensures { λ r. ⌜ CutPost e depths from to before r ⌝ }
+fn cut_part(row: Row, e: u8, from: usize, to: usize, before: Cuts) -> Cuts
+    requires { ⌜ CutPre e (row .depths) from to before ⌝ }
+    ensures { λ r. ⌜ CutPost e (row .depths) from to before r ⌝ }
 {
     if to - from <= wide(e) {
         let mut c = before;
@@ -188,7 +188,7 @@ fn cut_part(depths: [u8; 319], e: u8, from: usize, to: usize, before: Cuts) -> C
         c.count = n + 1;
         return c;
     }
-    let m = split_at(depths, from, to).at;
-    let left = cut_part(depths, e, from, m, before);
-    cut_part(depths, e, m, to, left)
+    let m = split_at(row, from, to).at;
+    let left = cut_part(row, e, from, m, before);
+    cut_part(row, e, m, to, left)
 }

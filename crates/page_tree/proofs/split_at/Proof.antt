@@ -9,30 +9,30 @@ use Rattle.page_tree.proofs.split_at.Statement.{statement}
 use Rattle.page_tree.proofs.split_at.Tie as tie
 
 abbrev Inv-loop : tie.InvT-loop
-Inv-loop from to depths end above at₀ least₀ limit₀ i₀ at least limit i =
-    (end ≡ to - 1) × (above ≡ getD depths (to - 1) 0 + 1) × (above ≤ 65535) × (limit ≡ max least (above + 1))
-    × Trying depths from to (getD depths (to - 1) 0) i at least
+Inv-loop from to row end stop at₀ least₀ limit₀ i₀ at least limit i =
+    (end ≡ to - 1) × (stop ≡ getD (row .depths) (to - 1) 0 + 1) × (stop ≤ 65535) × (limit ≡ max least (stop + 1))
+    × Trying (row .depths) from to (getD (row .depths) (to - 1) 0) i at least
 
 abbrev μ-loop : tie.MeasureT-loop
-μ-loop from to depths end above at₀ least₀ limit₀ i₀ at least limit i = end - i
+μ-loop from to row end stop at₀ least₀ limit₀ i₀ at least limit i = end - i
 
 sub-end : tie.Need-sub-end Inv-loop μ-loop
 sub-end c = search needs
 
-array-read-wide : tie.Need-array-read-wide Inv-loop μ-loop
-array-read-wide c = search needs
+element-copy-out-wide : tie.Need-element-copy-out-wide Inv-loop μ-loop
+element-copy-out-wide c = search needs
 
 wide-requires : tie.Need-wide-requires Inv-loop μ-loop
 wide-requires c κs = search needs
 
-add-above : tie.Need-add-above Inv-loop μ-loop
-add-above c = search needs
+add-stop : tie.Need-add-stop Inv-loop μ-loop
+add-stop c = search needs
 
 add-at : tie.Need-add-at Inv-loop μ-loop
 add-at c = search needs
 
-array-read-wide-2 : tie.Need-array-read-wide-2 Inv-loop μ-loop
-array-read-wide-2 c = search needs
+element-copy-out-wide-2 : tie.Need-element-copy-out-wide-2 Inv-loop μ-loop
+element-copy-out-wide-2 c = search needs
 
 wide-requires-2 : tie.Need-wide-requires-2 Inv-loop μ-loop
 wide-requires-2 c κs = search needs
@@ -42,16 +42,16 @@ passed-from-requires c κs = search needs
 
 loop-holds : tie.Need-loop-holds Inv-loop μ-loop
 loop-holds c =
-    let last = c .before .before .wide .ensures in (
+    let last = c .before .before .before .wide .ensures in (
       refl,
       omega (arith, last .0),
       omega (arith, last .1),
       c .passed-from .ensures,
-      trying-begun _ _ _ _ _ (c .before .wide2 .ensures .0) (omega arith) (search needs),
+      trying-begun _ _ _ _ _ (c .before .wide2 .ensures .0) (omega arith) (omega arith) (search needs),
     )
 
-array-read-wide-3 : tie.Need-array-read-wide-3 Inv-loop μ-loop
-array-read-wide-3 c = search needs
+element-copy-out-wide-3 : tie.Need-element-copy-out-wide-3 Inv-loop μ-loop
+element-copy-out-wide-3 c = search needs
 
 wide-requires-3 : tie.Need-wide-requires-3 Inv-loop μ-loop
 wide-requires-3 c κs = search needs
@@ -64,9 +64,9 @@ sub-t24 c = search needs
 
 returns : tie.Need-returns Inv-loop μ-loop
 returns c =
-    let turn = c .before .before .before .before in
-    let inv = turn .loop .inv in
-    let met = trying-met _ _ _ _ _ _ (inv .4) (omega arith) _ (c .before .before .wide3 .ensures .0) (omega (arith, inv .1, c .if2 .taken)) in
+    let tried = c .before .before in
+    let inv = tried .before .before .before .loop .inv in
+    let met = trying-met _ _ _ _ _ _ (inv .4) (omega arith) _ (tried .wide3 .ensures .0) (omega (arith, inv .1, c .if2 .taken)) in
     record { place = omega (arith, met .0); count = omega (arith, met .1) }
 
 passed-from-requires-2 : tie.Need-passed-from-requires-2 Inv-loop μ-loop
@@ -78,7 +78,7 @@ loop-less c = search needs
 loop-again : tie.Need-loop-again Inv-loop μ-loop
 loop-again c =
     let tried = c .before .before .before .before in
-    let inv = tried .before .before .loop .inv in (
+    let inv = tried .before .before .before .loop .inv in (
       refl,
       inv .1,
       inv .2,
@@ -93,7 +93,7 @@ loop-less-2 c = search needs
 loop-again-2 : tie.Need-loop-again-2 Inv-loop μ-loop
 loop-again-2 c =
     let tried = c .before .before .before in
-    let inv = tried .before .before .loop .inv in (
+    let inv = tried .before .before .before .loop .inv in (
       refl,
       inv .1,
       inv .2,
@@ -108,7 +108,7 @@ loop-less-3 c = search needs
 loop-again-3 : tie.Need-loop-again-3 Inv-loop μ-loop
 loop-again-3 c =
     let tried = c .before in
-    let inv = tried .before .before .loop .inv in
+    let inv = tried .before .before .before .loop .inv in
     let deep = c .if1 .left in (
       refl,
       inv .1,
@@ -133,15 +133,15 @@ split-at-spec =
     Inv-loop
     μ-loop
     sub-end
-    array-read-wide
+    element-copy-out-wide
     wide-requires
-    add-above
+    add-stop
     add-at
-    array-read-wide-2
+    element-copy-out-wide-2
     wide-requires-2
     passed-from-requires
     loop-holds
-    array-read-wide-3
+    element-copy-out-wide-3
     wide-requires-3
     add-next
     sub-t24
