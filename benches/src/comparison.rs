@@ -20,11 +20,11 @@ round of reading, the libraries exchange them. A round in which an on finds no p
 over the quarter of the rounds that took least, and a ratio is the median of the ratios within them; brackets show the
 interval of the median (95 in 100). With on and off these are rounds whose keys cut and merge few pages. So the mean of
 all rows of 16 follows: each comes again and again on the same tables, and the least of its times counts. Ons that cut
-a page, which are those that take a free one, have rounds of their own too, for a third of the time, with as many ons
-that cut none: 16 keys in a row, each put on another of up to 16 other herds of the kind and size, by both libraries on
-the same tables. A library does each row twice, and the second time counts; each time what the row changed is written
-back. Functions stand at multiples of 64 bytes, but where else the linker puts them may still count: what a library
-compared with itself shows tells how much.";
+a page, which are those that take a free one, have rounds of their own too, for a third as long as reading, with as
+many ons that cut none: up to 16 keys in a row, each put on another herd of the kind and size, by both libraries on the
+same tables. A library does each row twice, and the second time counts; each time what the row changed is written back.
+Functions stand at multiples of 64 bytes, but where else the linker puts them may still count: what a library compared
+with itself shows tells how much.";
 
 /// Prints what was done, with pages of E entries.
 pub fn print_method(entries: usize) {

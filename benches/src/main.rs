@@ -3,7 +3,7 @@
 //! load of forty takes, beside forty calls. The arguments, if given, are the seconds
 //! for reading each herd, and as many for changing it, and for loads, and E. If an
 //! earlier library is linked too, prints how long find, list, on and off of both
-//! take in place of the first.
+//! take, and ons that cut a page, in place of the first.
 
 mod aligned;
 mod both;
