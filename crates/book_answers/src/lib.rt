@@ -1,4 +1,6 @@
 // The line that the day book prints: numbers in decimal, parted by tabs.
+#![tactic(auto)]
+
 ghost use Rattle.std.specs.Prelude.{◌≡◌, ◌+◌, ◌≤◌, length, take};
 ghost use Rattle.book_answers.specs.Answers.{decimal, field, fields_of, end_of};
 ghost use Rattle.book_answers.specs.Writing.{Wrote, RoomForRecords, Writable, AnswerWritten};

@@ -1,4 +1,6 @@
 // The day book's answers to chunks of input of any size.
+#![tactic(auto)]
+
 ghost use Rattle.std.specs.Prelude.{[], ◌∷◌};
 ghost use Rattle.book_input.specs.Lines.{begun_before};
 ghost use Rattle.day_book.specs.LineAnswers.{tables};

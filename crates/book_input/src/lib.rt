@@ -1,10 +1,12 @@
 // Lines gathered from chunks of input of any size, and how far the day book has come with them.
+#![tactic(auto)]
+
 ghost use Rattle.std.specs.Prelude.{◌≡◌, ◌≤◌, ◌<◌, length};
 ghost use Rattle.book_input.specs.Gathering.{Keeps, TakePre, Takes};
 ghost use Rattle.book_input.specs.Progress.{TakesNext, last_number, line_answered};
 
 // How far a line has been gathered: the place behind what was taken of the chunk, the bytes held of the line, and whether its newline was met.
-#[derive(Drop)]
+#[derive(Clone, Copy)]
 pub struct Taken {
     pub at: usize,
     pub length: usize,
@@ -13,7 +15,7 @@ pub struct Taken {
 
 // How far the day book has come: the lines answered, the bytes held of the line that is being read, the place in the chunk, and the bytes of answers in
 // `out`.
-#[derive(Drop)]
+#[derive(Clone, Copy)]
 pub struct Progress {
     pub lines: u64,
     pub held: usize,
@@ -22,7 +24,7 @@ pub struct Progress {
 }
 
 // How far it has come with the next line, and whether that line's newline was met.
-#[derive(Drop)]
+#[derive(Clone, Copy)]
 pub struct Next {
     pub progress: Progress,
     pub whole: bool,

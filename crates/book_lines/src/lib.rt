@@ -1,4 +1,6 @@
 // What a line of the day book says (01, "Day-book program").
+#![tactic(auto)]
+
 mod fields;
 
 ghost use Rattle.std.specs.Prelude.{◌≡◌};
@@ -10,7 +12,7 @@ use book_tags::digits::Number;
 use book_tags::parts::{bytes_after, first_bytes};
 
 // What a line says: a call with its arguments, or why there is none (10: bad line; 11: out of range).
-#[derive(Drop)]
+#[derive(Clone, Copy)]
 pub enum Said {
     On { key: u64, record: u32 },
     Off { key: u64 },

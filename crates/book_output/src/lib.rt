@@ -1,4 +1,6 @@
 // What a read gave is answered, and the answers are written to standard output.
+#![tactic(auto)]
+
 ghost use Rattle.day_book.specs.LineAnswers.{tables};
 ghost use Rattle.book_output.specs.Readings.{PiecesReady, PiecesDo, EndReady, EndDoes, ReadDoes};
 
@@ -6,7 +8,7 @@ use book_input::Progress;
 use libc::STDOUT_FILENO;
 
 // How far the day book has come between two reads: the lines answered, the bytes held of the line that is being read, and whether it goes on.
-#[derive(Drop)]
+#[derive(Clone, Copy)]
 pub struct Reading {
     pub lines: u64,
     pub held: usize,

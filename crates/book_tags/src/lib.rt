@@ -1,4 +1,6 @@
 // The tags and records that the fields of a line write.
+#![tactic(auto)]
+
 pub mod digits;
 pub mod parts;
 
@@ -10,7 +12,7 @@ use parts::{bytes_after, first_bytes};
 use tag_code::{TagFields, pack, unpack};
 
 // What a field that should be a tag writes.
-#[derive(Drop)]
+#[derive(Clone, Copy)]
 pub enum Tag {
     Key(u64),
     OutOfRange,

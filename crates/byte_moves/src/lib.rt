@@ -1,4 +1,6 @@
 // Bytes moved within the index table, up to 32 at once: all of them are read before one is written, so that places may overlap.
+#![tactic(auto)]
+
 ghost use Rattle.std.specs.Prelude.{◌≡◌, ◌+◌, ◌≤◌, length, take, drop};
 ghost use Rattle.byte_moves.specs.Over.{over};
 

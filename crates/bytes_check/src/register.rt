@@ -6,14 +6,14 @@ ghost use Rattle.bytes_check.specs.Gatherings.{UsedBetween, four_keys, Paired, G
 use crate::numbers::wide;
 
 // Whether every record is sound, and how many are in use.
-#[derive(Drop)]
+#[derive(Clone, Copy)]
 pub struct Tally {
     pub fits: bool,
     pub held: u64,
 }
 
 // What a pass gathers of records: the bits of all keys, those of keys on free records, and how many are in use.
-#[derive(Drop)]
+#[derive(Clone, Copy)]
 struct Gathering {
     keys: u64,
     odd: u64,

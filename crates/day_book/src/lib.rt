@@ -1,4 +1,6 @@
 // The day book: a line in, its answer line out.
+#![tactic(auto)]
+
 ghost use Rattle.std.specs.Prelude.{◌≤◌, length};
 ghost use Rattle.day_book.specs.LineAnswers.{tables, OnLineDoes, OffLineDoes, FindLineDoes, ListLineDoes, NoneDoes, LineDoes};
 

@@ -1,4 +1,6 @@
 // The day book: each line of standard input is answered on standard output.
+#![tactic(auto)]
+
 ghost use Rattle.std.specs.Prelude.{◌≡◌};
 ghost use Rattle.book_output.specs.Readings.{Between};
 

@@ -1,4 +1,6 @@
 // One entry of level 0: figure 11 at the entry found, and on the way back to the left.
+#![tactic(auto)]
+
 ghost use Rattle.std.proofs.Math.Option.{none};
 ghost use Rattle.std.specs.Prelude.{◌<◌};
 ghost use Rattle.leaf_list.specs.Entries.{entry};
@@ -10,7 +12,7 @@ use index_table::layout::deep;
 use page_tree::Unwind;
 
 // What is left of an entry: it stays, with this depth and pointer, or it is gone; and what is asked of the entry before.
-#[derive(Drop)]
+#[derive(Clone, Copy)]
 pub struct Remnant {
     pub stays: bool,
     pub depth: u8,

@@ -1,4 +1,6 @@
 // The pages of sound tables changed, with the header's root and records held.
+#![tactic(auto)]
+
 ghost use Rattle.std.specs.Prelude.{◌≡◌, ◌-◌, ◌≤◌, length};
 ghost use Rattle.page_tree.specs.Numbered.{off_numbered};
 ghost use Rattle.index_table.specs.Header.{width_of, entries_of, held_of};

@@ -6,7 +6,7 @@ ghost use Rattle.index_table.specs.IndexNumbers.{IndexOf};
 use crate::layout::PageNo;
 
 // The numbers of a header.
-#[derive(Drop)]
+#[derive(Clone, Copy)]
 pub struct Index {
     pub width: u8,
     pub entries: u8,

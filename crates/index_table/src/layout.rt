@@ -4,22 +4,22 @@ ghost use Rattle.index_table.specs.Layout.{Within, layout_of, page_start, page_b
 ghost use Rattle.index_table.specs.Answers.{answer_of};
 
 // A page's number, made from a pointer above level 0.
-#[derive(Drop)]
+#[derive(Clone, Copy)]
 pub struct PageNo(pub u16);
 
 // A record's number, made from a pointer on level 0.
-#[derive(Drop)]
+#[derive(Clone, Copy)]
 pub struct RecordNo(pub u32);
 
 // A root page and its level.
-#[derive(Drop)]
+#[derive(Clone, Copy)]
 pub struct Root {
     pub page: PageNo,
     pub level: u8,
 }
 
 // What an entry on level 0 points at.
-#[derive(Drop)]
+#[derive(Clone, Copy)]
 pub enum Answer {
     Live(RecordNo),
     Dummy,

@@ -1,3 +1,5 @@
 // The index table as bytes: its header and its pages, as they are read.
+#![tactic(auto)]
+
 pub mod header;
 pub mod layout;

@@ -8,7 +8,7 @@ ghost use Rattle.leaf_check.specs.Leaves.{countless, NarrowRegister, Carried, Sc
 
 // What the check carries from page to page: the discriminator and the depth of the last entry, how many were live, whether the last was
 // a dummy, and whether it closed the list.
-#[derive(Drop)]
+#[derive(Clone, Copy)]
 pub struct Scan {
     pub disc: u64,
     pub trail: u64,
@@ -18,7 +18,7 @@ pub struct Scan {
 }
 
 // How many faults were met, none or one, and what is carried on. A number, not a flag: copies of a flag before numbers take longer.
-#[derive(Drop)]
+#[derive(Clone, Copy)]
 pub struct Checked {
     pub faults: u64,
     pub scan: Scan,

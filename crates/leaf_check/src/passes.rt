@@ -10,7 +10,7 @@ use index_table::layout::PageNo;
 
 // What a pass carries from entry to entry: whether all fitted, the discriminator, all bits behind the depth of the last entry, those behind the
 // depth that the next must pass, and how many were dummies.
-#[derive(Drop)]
+#[derive(Clone, Copy)]
 pub struct Pass {
     pub ok: bool,
     pub disc: u64,

@@ -1,3 +1,5 @@
+#![tactic(auto)]
+
 ghost use Rattle.std.specs.Prelude.{◌≡◌, ◌≢◌, ◌-◌, ◌≤◌, ◌<◌, ◌^◌, max, eqb, leb};
 ghost use Rattle.leaf_list.specs.Keys.{bits, first_difference, bit_at, set_bit_at, first_bits};
 ghost use Rattle.leaf_list.specs.Insertion.{leaf_depth};

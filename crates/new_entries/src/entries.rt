@@ -8,7 +8,7 @@ ghost use Rattle.new_entries.specs.Entries.{DummiesPre, FoundPre, NewPre, NewPos
 use table_search::Leaf;
 
 // New entries: a dummy for each one-bit p of the key with low < p < high, the leaf (high, first) and the leaf (depth, second); or the last alone.
-#[derive(Drop)]
+#[derive(Clone, Copy)]
 pub struct News {
     pub alone: bool,
     pub low: u64,

@@ -1,4 +1,6 @@
 // Deletion within a page: figure 11 where it changes one page of level 0 alone, within that page's bytes.
+#![tactic(auto)]
+
 ghost use Rattle.std.specs.Prelude.{◌≡◌, false, [], ◌≤◌, length};
 ghost use Rattle.page_tree.specs.declared.Unwind.TheVariants.{Give, Clear};
 ghost use Rattle.index_table.specs.Layout.{Within, layout_of};

@@ -1,11 +1,13 @@
 // Pages as rows: the row that is changed and cut, and what deletion asks of the entry before.
+#![tactic(auto)]
+
 ghost use Rattle.std.specs.Prelude.{◌≡◌, [], ◌∷◌, ◌++◌, ◌+◌, ◌-◌, ◌≤◌, ◌<◌, max, get_or, set};
 ghost use Rattle.page_tree.specs.Rows.{LastBelow};
 ghost use Rattle.page_tree.specs.Row.{depth_of, row_of, part_of, Holds, SplitPost, CutPre, CutPost, CutsPost};
 
 // What deletion asks of the entry before, on its way back to the left: nothing; to take a depth;
 // to go where it is a dummy deeper than a depth.
-#[derive(Drop)]
+#[derive(Clone, Copy)]
 pub enum Unwind {
     Idle,
     Give(u8),
@@ -13,7 +15,7 @@ pub enum Unwind {
 }
 
 // A row of entries: entry i, below count, has the depth depths[i] and the pointer pointers[i].
-#[derive(Drop)]
+#[derive(Clone, Copy)]
 pub struct Row {
     pub depths: [u8; 319],
     pub pointers: [u32; 319],
@@ -21,7 +23,7 @@ pub struct Row {
 }
 
 // Where a row is cut: past the last entry of each part, in order; the first count places are in use.
-#[derive(Drop)]
+#[derive(Clone, Copy)]
 pub struct Cuts {
     pub ends: [usize; 65],
     pub count: usize,
@@ -126,7 +128,7 @@ fn wide(x: u8) -> usize
 }
 
 // Where a row is cut, counted from its first entry, and how many entries of the part the search tried.
-#[derive(Drop)]
+#[derive(Clone, Copy)]
 pub struct Cut {
     pub at: usize,
     pub tried: usize,

@@ -1,4 +1,6 @@
 // The check of the tables.
+#![tactic(auto)]
+
 ghost use Rattle.std.specs.Prelude.{◌≡◌, true, ◌↔◌};
 ghost use Rattle.index_table.specs.Soundness.{Sound};
 

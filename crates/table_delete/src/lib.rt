@@ -1,4 +1,6 @@
 // Deletion in the pages of a sound tree: within a page where that is enough, else across pages; then pages are merged, and the root rule comes last.
+#![tactic(auto)]
+
 ghost use Rattle.std.specs.Prelude.{◌≡◌};
 ghost use Rattle.index_table.specs.Layout.{Within, layout_of};
 ghost use Rattle.index_table.specs.Pages.{pages_at};

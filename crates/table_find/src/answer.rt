@@ -4,7 +4,7 @@ ghost use Rattle.table_find.specs.Answers.{plain, with_record, with_count};
 
 // 0 done, or the number of the row that declines the call; the record that a find found; how many records a list wrote, and whether more remain.
 #[repr(C)]
-#[derive(Drop)]
+#[derive(Clone, Copy)]
 pub struct Answer {
     pub number: u32,
     pub record: u32,

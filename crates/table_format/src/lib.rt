@@ -1,4 +1,6 @@
 // Format: tables for an empty herd.
+#![tactic(auto)]
+
 ghost use Rattle.std.specs.Prelude.{◌≡◌, length, replicate};
 ghost use Rattle.table_format.specs.Format.{format_fits, empty_table, FormatDoes, EmptyPre};
 

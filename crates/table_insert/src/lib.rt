@@ -1,4 +1,6 @@
 // New entries put into the pages of a sound tree: the page found is changed and cut, its parts enter the parent, and so up.
+#![tactic(auto)]
+
 ghost use Rattle.std.specs.Prelude.{◌≡◌, [], ◌∷◌, suc, ◌+◌, ◌-◌, ◌<◌};
 ghost use Rattle.page_tree.specs.Row.{row_of, Holds};
 ghost use Rattle.index_write.specs.Storing.{new_leaves};

@@ -1,4 +1,6 @@
 // List, behind the check: from the place of the lower end to the right.
+#![tactic(auto)]
+
 ghost use Rattle.std.specs.Prelude.{◌≡◌, ◌<◌, ◌^◌};
 ghost use Rattle.leaf_list.specs.Register.{herd_of};
 ghost use Rattle.index_table.specs.Header.{width_of};
@@ -11,7 +13,7 @@ use table_find::answer::Answer;
 use table_search::seek;
 
 // How far a list has come: the records written, whether one more was met that found no room, and whether nothing further is to be met.
-#[derive(Drop)]
+#[derive(Clone, Copy)]
 struct Listing {
     pub count: usize,
     pub more: bool,

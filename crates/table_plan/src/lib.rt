@@ -1,4 +1,6 @@
 // The dry run of an insertion: how high the root will stand and how many pages are needed, before any byte changes.
+#![tactic(auto)]
+
 ghost use Rattle.std.specs.Prelude.{◌≡◌, ◌+◌, ◌≤◌, length};
 ghost use Rattle.page_tree.specs.Rows.{LastBelow};
 ghost use Rattle.page_tree.specs.Row.{depth_of, row_of};
@@ -14,14 +16,14 @@ use page_tree::Row;
 use table_search::{next_position, seek};
 
 // What will stand in the place of a page: the depths of its parts in their parent (pointers 0), and how many pages more that takes.
-#[derive(Drop)]
+#[derive(Clone, Copy)]
 pub struct Plan {
     pub row: Row,
     pub fresh: usize,
 }
 
 // What an insertion will leave: the level of the root, and how many pages more are in use.
-#[derive(Drop)]
+#[derive(Clone, Copy)]
 pub struct Outcome {
     pub level: usize,
     pub fresh: usize,

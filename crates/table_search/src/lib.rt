@@ -1,4 +1,6 @@
 // Search in sound tables: figure 6 from the root down.
+#![tactic(auto)]
+
 ghost use Rattle.std.specs.Prelude.{◌≡◌, cond, ◌+◌, ◌-◌, ◌%◌, ◌^◌, ◌≤◌, ◌<◌, leb};
 ghost use Rattle.index_table.specs.Layout.{Within, layout_of};
 ghost use Rattle.index_table.specs.Pages.{pages_at};
@@ -8,7 +10,7 @@ use index_table::layout::{PageNo, child, count, deep, depth, pointer, wide, wide
 use leaf_list::{bit, first_difference};
 
 // A place in a page: the entry, the next position, and the depth before the entry.
-#[derive(Drop)]
+#[derive(Clone, Copy)]
 pub struct Spot {
     pub at: usize,
     pub position: u64,
@@ -17,7 +19,7 @@ pub struct Spot {
 
 // An entry on level 0: its place in its page, what it points at, the page, its depth, the depth before it, the depth before its page, and whether the
 // page above its page is sparse.
-#[derive(Drop)]
+#[derive(Clone, Copy)]
 pub struct Leaf {
     pub at: usize,
     pub pointer: u32,

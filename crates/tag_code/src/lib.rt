@@ -1,10 +1,12 @@
 // Tag codes of ISO 11784: seven fields, and the 64-bit code that they make.
+#![tactic(auto)]
+
 ghost use Rattle.std.specs.Prelude.{◌≡◌, ◌+◌, ◌*◌, ◌/◌, ◌%◌, ◌^◌, ◌-◌, ◌<◌};
 ghost use Rattle.tag_code.specs.TagCode.{fields_fit, packed, unpacked};
 
 // The fields of a tag, from bit 1 of its code to bit 64.
 #[repr(C)]
-#[derive(Drop)]
+#[derive(Clone, Copy)]
 pub struct TagFields {
     pub animal: u64,
     pub retag: u64,
@@ -17,7 +19,7 @@ pub struct TagFields {
 
 // The answer of `pack`: 0 and the code, or 11 and 0.
 #[repr(C)]
-#[derive(Drop)]
+#[derive(Clone, Copy)]
 pub struct Packed {
     pub number: u32,
     pub code: u64,
@@ -25,7 +27,7 @@ pub struct Packed {
 
 // The answer of `unpack`: 0 and the fields, or 11 and fields 0.
 #[repr(C)]
-#[derive(Drop)]
+#[derive(Clone, Copy)]
 pub struct Unpacked {
     pub number: u32,
     pub fields: TagFields,

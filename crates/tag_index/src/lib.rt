@@ -1,4 +1,6 @@
 // The tag index: the calls on lent tables.
+#![tactic(auto)]
+
 pub mod c;
 pub mod change;
 pub mod load;

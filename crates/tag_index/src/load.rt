@@ -7,7 +7,7 @@ ghost use Rattle.tag_index.specs.LoadTurns.{OneMoved, turns_of};
 // A movement of the yard's list is an off of the key where `on` is 0, and else an on of the key with the record. Its layout stands in include/tag_index.h,
 // bindings/rust/src/movement.rs and tests/compare/src/loads.rs too.
 #[repr(C)]
-#[derive(Drop)]
+#[derive(Clone, Copy)]
 pub struct Movement {
     pub key: u64,
     pub record: u32,

@@ -13,7 +13,7 @@ use page_tree::Row;
 use table_search::{Spot, seek};
 
 // The row of a page, the place found in it, and the depth that follows that place on level 0.
-#[derive(Drop)]
+#[derive(Clone, Copy)]
 pub struct Place {
     pub row: Row,
     pub spot: Spot,

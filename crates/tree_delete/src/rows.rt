@@ -9,14 +9,14 @@ use index_write::write::{free_page, store_page};
 use page_tree::{Row, Unwind};
 
 // A row whose entries from `at` on are done.
-#[derive(Drop)]
+#[derive(Clone, Copy)]
 pub struct Slot {
     pub row: Row,
     pub at: usize,
 }
 
 // A row that is done, and what is asked of the entry before it.
-#[derive(Drop)]
+#[derive(Clone, Copy)]
 pub struct Swept {
     pub row: Row,
     pub state: Unwind,

@@ -1,4 +1,6 @@
 // Merging below a page: figure 12 along the way of a key, from level 0 up.
+#![tactic(auto)]
+
 ghost use Rattle.std.specs.Prelude.{◌≡◌, suc, ◌<◌};
 ghost use Rattle.index_table.specs.Layout.{layout_of};
 ghost use Rattle.index_table.specs.Pages.{pages_at};
