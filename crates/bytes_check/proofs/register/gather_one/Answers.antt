@@ -1,0 +1,13 @@
+-- One record more, by its byte. Assumes nothing.
+use Rattle.std.proofs.Common.{arith}
+use Rattle.bytes_check.proofs.Gathered.{gathered_more}
+use Rattle.bytes_check.proofs.register.gather_one.Goals as goal
+
+pub overflow_add-result : goal.overflow_add-result
+overflow_add-result c =
+    omega (arith, c.requires.0.bytes c.args.i c.requires.1, c.requires.2.small, c.wide-byte.ensures.0)
+
+pub returns : goal.returns
+returns c =
+    let wide = c.wide-byte in
+    gathered_more _ _ _ c.requires.1 _ _ (omega (arith, c.shared_slice_known-4-1.given c.args.i)) wide.ensures.0 (omega (arith, c.requires.0.bytes c.args.i c.requires.1, wide.ensures.0)) (omega arith) c.wrapping_sub_u64.ensures c.requires.2

@@ -1,0 +1,28 @@
+-- A line is answered as what it says. Assumes nothing.
+use mathlib.Core.Path.{sym, ◌∙◌}
+use Rattle.day_book.proofs.Showing.{said_line, bad_line, outside_line}
+use Rattle.day_book.proofs.answer_line.Goals as goal
+
+pub returns-in-On : goal.returns-in-On
+returns-in-On c =
+    said_line _ _ (sym c.key-1.given.1 ∙ c.read_line.ensures) c.on_line.ensures
+
+pub returns-in-Off : goal.returns-in-Off
+returns-in-Off c =
+    said_line _ _ (sym c.key-in-Off-1.given.1 ∙ c.read_line.ensures) c.off_line.ensures
+
+pub returns-in-Find : goal.returns-in-Find
+returns-in-Find c =
+    said_line _ _ (sym c.key-in-Find-1.given.1 ∙ c.read_line.ensures) c.find_line.ensures
+
+pub returns-in-List : goal.returns-in-List
+returns-in-List c =
+    said_line _ _ (sym c.from-1.given.1 ∙ c.read_line.ensures) c.list_line.ensures
+
+pub returns-in-Bad : goal.returns-in-Bad
+returns-in-Bad c =
+    bad_line _ (sym c.enum_told-1.given.1 ∙ c.read_line.ensures) c.declined_line.ensures
+
+pub returns-in-OutOfRange : goal.returns-in-OutOfRange
+returns-in-OutOfRange c =
+    outside_line _ (sym c.enum_told-in-OutOfRange-1.given.1 ∙ c.read_line.ensures) c.declined_line-in-OutOfRange.ensures

@@ -1,0 +1,29 @@
+-- A visit's cases are the code's returns. Assumes nothing.
+use native.Mathlib.Omega.{arith}
+use Rattle.index_table.proofs.Pointers.{dummy_pointer, live_pointer}
+use Rattle.table_list.proofs.VisitSteps.{visited_dummy, visited_inside, visited_below, visited_ended, visited_full, visited_written}
+use Rattle.table_list.proofs.visit.Goals as goal
+
+pub returns-in_default : goal.returns-in_default
+returns-in_default c =
+    visited_dummy _ _ _ _ _ _ c.requires (dummy_pointer _ _ c.answer_of-answer.ensures c.enum_told-1.given.1)
+
+pub bounds-keys-at : goal.bounds-keys-at
+bounds-keys-at c =
+    visited_inside _ 0 0 c.args.out.now _ _ c.requires _ (live_pointer _ _ _ c.answer_of-answer.ensures c.answer-1.given.1)
+
+pub returns-then-key-a : goal.returns-then-key-a
+returns-then-key-a c =
+    visited_below _ _ _ _ _ _ c.requires _ (live_pointer _ _ _ c.answer_of-answer.ensures c.answer-1.given.1) (omega arith)
+
+pub returns-then-key-b : goal.returns-then-key-b
+returns-then-key-b c =
+    visited_ended _ _ _ _ _ _ c.requires _ (live_pointer _ _ _ c.answer_of-answer.ensures c.answer-1.given.1) (omega arith) (omega arith)
+
+pub returns-then-written-out : goal.returns-then-written-out
+returns-then-written-out c =
+    visited_full _ _ _ _ _ _ c.requires _ (live_pointer _ _ _ c.answer_of-answer.ensures c.answer-1.given.1) (omega arith) (omega arith) (omega arith)
+
+pub returns : goal.returns
+returns c =
+    visited_written _ _ _ _ _ _ c.requires _ (live_pointer _ _ _ c.answer_of-answer.ensures c.answer-1.given.1) (omega arith) (omega arith) (omega arith)

@@ -1,0 +1,15 @@
+-- Row 1, or off in sound tables. Assumes nothing.
+use borrow.Author.Tests.{not-true, not-false}
+use Rattle.tag_index.proofs.Changes.{off_unsound, off_sound}
+use Rattle.tag_index.proofs.change.off.Goals as goal
+
+pub returns-then-not-check : goal.returns-then-not-check
+returns-then-not-check c = off_unsound _ c.check.ensures _ (not-true _ c.if-not-check.true-raw) c.plain.ensures
+
+pub off_sound-requires : goal.off_sound-requires
+off_sound-requires c =
+    c.check.ensures.0 (not-false _ c.if-not-check.false-raw)
+
+pub returns : goal.returns
+returns c =
+    off_sound _ c.check.ensures (not-false _ c.if-not-check.false-raw) c.off_sound.ensures
