@@ -23,7 +23,7 @@ string p = p ++ (true ∷ [])
 pub strings_stems : (n : ℕ) → strings n ≡ map string (stems n)
 strings_stems zero = refl
 strings_stems (suc n) =
-    rw (strings_stems n, map-append string (map (λ v. false ∷ v) (stems n)) ([] ∷ map (λ v. true ∷ v) (stems n)), map-map, map-map, map-map, map-map)
+    rw (strings_stems n, map-append string (map (λ v. false ∷ v) (stems n)) ([] ∷ map (λ v. true ∷ v) (stems n))) (simp map-map)
 
 -- The sibling of a string has its stem.
 pub sibling_string : (p : Key) → sibling (string p) ≡ p ++ (false ∷ [])

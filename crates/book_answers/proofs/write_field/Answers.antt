@@ -12,7 +12,7 @@ pub write_number-requires : goal.write_number-requires
 write_number-requires c = simp length-set (omega (arith, c.requires, length_field c.args.n))
 
 pub shape_of-out : goal.shape_of-out
-shape_of-out c = c.write_number.auto.0 ∙ simp length-set
+shape_of-out c = c.write_number.auto.out ∙ simp length-set
 
 pub returns : goal.returns
 returns c = field_wrote _ c.write_number.ensures

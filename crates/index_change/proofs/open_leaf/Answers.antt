@@ -14,10 +14,10 @@ pub overflow_add-head : goal.overflow_add-head
 overflow_add-head c = omega (arith, c.read-head.ensures.held, c.requires.held)
 
 pub set_held-requires : goal.set_held-requires
-set_held-requires c = omega (arith, c.write_news.auto.0, c.open_page-place.auto.0, c.requires.header)
+set_held-requires c = omega (arith, c.write_news.auto.index, c.open_page-place.auto.index, c.requires.header)
 
 pub shape_of-index : goal.shape_of-index
-shape_of-index c = c.set_held.auto.0 ∙ c.write_news.auto.0 ∙ c.open_page-place.auto.0
+shape_of-index c = c.set_held.auto.index ∙ c.write_news.auto.index ∙ c.open_page-place.auto.index
 
 pub returns : goal.returns
 returns c = opened_written c.requires c.read-head.ensures c.open_page-place.ensures c.deep.ensures c.write_news.ensures c.set_held.ensures

@@ -12,7 +12,7 @@ put_in-root-requires c =
 
 pub set_held-requires : goal.set_held-requires
 set_held-requires c =
-    omega (arith, c.set_root.auto.0, c.put_in-root.auto.0, header_bytes_lem c.requires.0.changeable _ c.read-h.ensures)
+    omega (arith, c.set_root.auto.index, c.put_in-root.auto.index, header_bytes_lem c.requires.0.changeable _ c.read-h.ensures)
 
 pub returns : goal.returns
 returns c =

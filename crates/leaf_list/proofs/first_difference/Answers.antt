@@ -15,4 +15,4 @@ pub overflow_add-result : goal.overflow_add-result
 overflow_add-result c = omega (arith, leading_le 64 (bit_xor c.args.a c.args.b))
 
 pub overflow_sub-result : goal.overflow_sub-result
-overflow_sub-result c = omega (arith, (returns BARE (c)).1)
+overflow_sub-result c = omega (arith, (returns c).1)

@@ -13,7 +13,7 @@ write_entry-requires c = (simp length-set (omega arith), omega arith)
 
 pub shape_of-index : goal.shape_of-index
 shape_of-index c =
-    c.write_entry.auto.0 ∙ simp length-set (c.write_header.auto.0 ∙ c.clear.auto.0)
+    c.write_entry.auto.index ∙ simp length-set (c.write_header.auto.index ∙ c.clear.auto.index)
 
 pub returns : goal.returns
 returns c =

@@ -8,32 +8,32 @@ use Rattle.table_insert.proofs.+grow.Goals as goal
 
 pub overflow_cast-result : goal.overflow_cast-result
 overflow_cast-result t c =
-    omega (arith, root_fits c.requires.1 (search rules, search rules) c.if-parts-le1.true)
+    omega (arith, root_fits c.requires (search rules, search rules) c.if-parts-le1.true)
 
 pub returns-then-parts-le1 : goal.returns-then-parts-le1
 returns-then-parts-le1 t c =
-    root_alone c.requires.1 (search rules, search rules) c.if-parts-le1.true
+    root_alone c.requires (search rules, search rules) c.if-parts-le1.true
 
 pub find_free-own-requires : goal.find_free-own-requires
 find_free-own-requires t c =
-    root_free c.requires.1 c.if-parts-le1.false
+    root_free c.requires c.if-parts-le1.false
 
 pub overflow_add-level : goal.overflow_add-level
 overflow_add-level t c =
-    omega (arith, root_level_lem c.requires.1 c.if-parts-le1.false)
+    omega (arith, root_level_lem c.requires c.if-parts-le1.false)
 
 pub place_parts-row-requires : goal.place_parts-row-requires
 place_parts-row-requires t c =
-    root_place c.requires.1 c.if-parts-le1.false _ c.find_free-own.ensures.0
+    root_place c.requires c.if-parts-le1.false _ c.find_free-own.ensures.0
 
 pub overflow_add-level-2 : goal.overflow_add-level-2
 overflow_add-level-2 t c =
-    omega (arith, root_level_lem c.requires.1 c.if-parts-le1.false)
+    omega (arith, root_level_lem c.requires c.if-parts-le1.false)
 
 pub grow-requires : goal.grow-requires
 grow-requires t c =
-    (omega (arith, c.requires.0, up_fewer c.requires.1 c.if-parts-le1.false c.find_free-own.ensures.1 (omega (arith, c.ranges)) _ (add-one c.args.level) c.place_parts-row.ensures (length_row c.place_parts-row.result (search rules, search rules) (omega (arith, c.place_parts-row.ensures.few)))), up_again c.requires.1 c.if-parts-le1.false c.find_free-own.ensures.1 (omega (arith, c.ranges)) _ (add-one c.args.level) c.place_parts-row.ensures (length_row c.place_parts-row.result (search rules, search rules) (omega (arith, c.place_parts-row.ensures.few))))
+    (omega (arith, c.decreases, up_fewer c.requires c.if-parts-le1.false c.find_free-own.ensures.1 (omega (arith, c.ranges)) _ (add-one c.args.level) c.place_parts-row.ensures (length_row c.place_parts-row.result (search rules, search rules) (omega (arith, c.place_parts-row.ensures.few)))), up_again c.requires c.if-parts-le1.false c.find_free-own.ensures.1 (omega (arith, c.ranges)) _ (add-one c.args.level) c.place_parts-row.ensures (length_row c.place_parts-row.result (search rules, search rules) (omega (arith, c.place_parts-row.ensures.few))))
 
 pub returns : goal.returns
 returns t c =
-    up_done c.requires.1 c.if-parts-le1.false c.find_free-own.ensures.1 (omega (arith, c.ranges)) _ (add-one c.args.level) c.place_parts-row.ensures (length_row c.place_parts-row.result (search rules, search rules) (omega (arith, c.place_parts-row.ensures.few))) c.grow.ensures
+    up_done c.requires c.if-parts-le1.false c.find_free-own.ensures.1 (omega (arith, c.ranges)) _ (add-one c.args.level) c.place_parts-row.ensures (length_row c.place_parts-row.result (search rules, search rules) (omega (arith, c.place_parts-row.ensures.few))) c.grow.ensures

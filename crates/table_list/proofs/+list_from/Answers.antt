@@ -6,31 +6,31 @@ use Rattle.table_list.proofs.PlaceWalks.{from_row, from_leaf, from_below, from_r
 use Rattle.table_list.proofs.+list_from.Goals as goal
 
 pub seek-s-requires : goal.seek-s-requires
-seek-s-requires t c = descend_seek c.requires.1.place
+seek-s-requires t c = descend_seek c.requires.place
 
 pub list_row-requires : goal.list_row-requires
-list_row-requires t c = from_row c.requires.1
+list_row-requires t c = from_row c.requires
 
 pub returns-then-level-eq0 : goal.returns-then-level-eq0
 returns-then-level-eq0 t c =
-    from_leaf _ c.if-level-eq0.true c.requires.1 _ c.seek-s.ensures _ _ c.begun.ensures _ c.list_row.ensures
+    from_leaf _ c.if-level-eq0.true c.requires _ c.seek-s.ensures _ _ c.begun.ensures _ c.list_row.ensures
 
 pub child-below-requires : goal.child-below-requires
 child-below-requires t c =
-    let pre = c.requires.1 in
+    let pre = c.requires in
     (row_within (from_row pre), row_short (from_row pre) _ c.seek-s.ensures.inside)
 
 pub list_from-l-requires : goal.list_from-l-requires
 list_from-l-requires t c =
-    (omega (arith, c.requires.0), from_below _ c.if-level-eq0.false c.requires.1 _ c.seek-s.ensures _ c.child-below.ensures)
+    (omega (arith, c.decreases), from_below _ c.if-level-eq0.false c.requires _ c.seek-s.ensures _ c.child-below.ensures)
 
 pub overflow_add-at : goal.overflow_add-at
 overflow_add-at t c =
-    omega (arith, row_short (from_row c.requires.1) _ c.seek-s.ensures.inside)
+    omega (arith, row_short (from_row c.requires) _ c.seek-s.ensures.inside)
 
 pub list_row-requires-2 : goal.list_row-requires-2
-list_row-requires-2 t c = from_row c.requires.1
+list_row-requires-2 t c = from_row c.requires
 
 pub returns : goal.returns
 returns t c =
-    from_right _ c.if-level-eq0.false c.requires.1 _ c.seek-s.ensures _ c.child-below.ensures _ _ _ c.list_from-l.ensures c.list_row-2.ensures
+    from_right _ c.if-level-eq0.false c.requires _ c.seek-s.ensures _ c.child-below.ensures _ _ _ c.list_from-l.ensures c.list_row-2.ensures

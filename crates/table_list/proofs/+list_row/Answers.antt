@@ -7,13 +7,13 @@ use Rattle.table_list.proofs.RowWalks.{row_within, row_short, row_leaf, leaf_lis
 use Rattle.table_list.proofs.+list_row.Goals as goal
 
 pub list_leaves-requires : goal.list_leaves-requires
-list_leaves-requires t c = row_leaf _ c.if-level-eq0.true c.requires.1
+list_leaves-requires t c = row_leaf _ c.if-level-eq0.true c.requires
 
 pub returns-then-level-eq0 : goal.returns-then-level-eq0
 returns-then-level-eq0 t c = leaf_listed _ c.if-level-eq0.true c.list_leaves.ensures
 
 pub count-requires : goal.count-requires
-count-requires t c = row_within c.requires.1
+count-requires t c = row_within c.requires
 
 pub loop-i-init : goal.loop-i-init
 loop-i-init t c = walking_start _ _ _ _ _ _ _ _ _ _ (c.wide-n.ensures.0 ∙ c.count.ensures ∙ sym (length_refs _ _))
@@ -26,12 +26,12 @@ returns-then-l t c = walking_over _ _ _ _ _ _ _ _ _ _ _ _ c.loop-i.invariant c.i
 
 pub child-below-requires : goal.child-below-requires
 child-below-requires t c =
-    let pre = c.requires.1 in
+    let pre = c.requires in
     (row_within pre, row_short pre _ (omega (arith, c.loop-i.invariant.counted)))
 
 pub list_row-l-requires : goal.list_row-l-requires
 list_row-l-requires t c =
-    (omega (arith, c.requires.0), row_below _ c.if-level-eq0.false c.requires.1 _ _ (omega (arith, c.loop-i.invariant.counted)) c.child-below.ensures)
+    (omega (arith, c.decreases), row_below _ c.if-level-eq0.false c.requires _ _ (omega (arith, c.loop-i.invariant.counted)) c.child-below.ensures)
 
 pub loop-i-preserved : goal.loop-i-preserved
 loop-i-preserved t c =

@@ -5,18 +5,18 @@ use Rattle.table_plan.proofs.GrowingRoots.{roots_end, roots_fewer, roots_next, r
 use Rattle.table_plan.proofs.+plan_roots.Goals as goal
 
 pub returns-then-parts-le1 : goal.returns-then-parts-le1
-returns-then-parts-le1 t c = roots_end (search rules, search rules) c.requires.1 c.if-parts-le1.true
+returns-then-parts-le1 t c = roots_end (search rules, search rules) c.requires c.if-parts-le1.true
 
 pub plan_roots-above-requires : goal.plan_roots-above-requires
 plan_roots-above-requires t c =
-    let fewer = roots_fewer (search rules, search rules) c.requires.1 c.if-parts-le1.false _ c.last_depths-up.ensures in
-    (omega (arith, c.requires.0), roots_next (search rules, search rules) c.requires.1 c.if-parts-le1.false _ c.last_depths-up.ensures)
+    let fewer = roots_fewer (search rules, search rules) c.requires c.if-parts-le1.false _ c.last_depths-up.ensures in
+    (omega (arith, c.decreases), roots_next (search rules, search rules) c.requires c.if-parts-le1.false _ c.last_depths-up.ensures)
 
 pub overflow_add-result : goal.overflow_add-result
 overflow_add-result t c =
-    let small = roots_small (search (rules, c.well-formed.1.1.0), search (rules, c.well-formed.1.1.0)) c.requires.1 c.if-parts-le1.false _ c.last_depths-up.ensures _ c.plan_roots-above.ensures in
+    let small = roots_small (search (rules, c.well-formed.1.1.0), search (rules, c.well-formed.1.1.0)) c.requires c.if-parts-le1.false _ c.last_depths-up.ensures _ c.plan_roots-above.ensures in
     omega (arith, small)
 
 pub returns : goal.returns
 returns t c =
-    roots_more (search (rules, c.well-formed.1.1.0), search (rules, c.well-formed.1.1.0)) c.requires.1 c.if-parts-le1.false _ c.last_depths-up.ensures _ c.plan_roots-above.ensures
+    roots_more (search (rules, c.well-formed.1.1.0), search (rules, c.well-formed.1.1.0)) c.requires c.if-parts-le1.false _ c.last_depths-up.ensures _ c.plan_roots-above.ensures

@@ -4,38 +4,38 @@ use Rattle.tree_merge.proofs.MergeLaws.{merge_low, merge_above, merge_seek, merg
 use Rattle.tree_merge.proofs.+merge.Goals as goal
 
 pub returns-then-level-lowest : goal.returns-then-level-lowest
-returns-then-level-lowest t c = merge_low _ c.if-level-lowest.true c.requires.1
+returns-then-level-lowest t c = merge_low _ c.if-level-lowest.true c.requires
 
 pub seek-s-requires : goal.seek-s-requires
-seek-s-requires t c = merge_seek c.requires.1.remove
+seek-s-requires t c = merge_seek c.requires.remove
 
 pub depth-c-requires : goal.depth-c-requires
 depth-c-requires t c =
-    merge_read c.requires.1.remove _ c.seek-s.ensures
+    merge_read c.requires.remove _ c.seek-s.ensures
 
 pub child-below-requires : goal.child-below-requires
 child-below-requires t c =
-    merge_read c.requires.1.remove _ c.seek-s.ensures
+    merge_read c.requires.remove _ c.seek-s.ensures
 
 pub overflow_sub-level : goal.overflow_sub-level
 overflow_sub-level t c =
-    omega (arith, merge_above c.requires.1 c.if-level-lowest.false)
+    omega (arith, merge_above c.requires c.if-level-lowest.false)
 
 pub merge-requires : goal.merge-requires
 merge-requires t c =
-    let ne = merge_above c.requires.1 c.if-level-lowest.false in
-    (omega (arith, c.requires.0, ne), merge_down _ c.requires.1 _ c.seek-s.ensures ne c.depth-c.ensures c.child-below.ensures)
+    let ne = merge_above c.requires c.if-level-lowest.false in
+    (omega (arith, c.decreases, ne), merge_down _ c.requires _ c.seek-s.ensures ne c.depth-c.ensures c.child-below.ensures)
 
 pub overflow_sub-level-2 : goal.overflow_sub-level-2
 overflow_sub-level-2 t c =
-    omega (arith, merge_above c.requires.1 c.if-level-lowest.false)
+    omega (arith, merge_above c.requires c.if-level-lowest.false)
 
 pub join_beside-requires : goal.join_beside-requires
 join_beside-requires t c = (
-  merge_beside _ c.requires.1 _ c.seek-s.ensures (merge_above c.requires.1 c.if-level-lowest.false) c.depth-c.ensures c.child-below.ensures c.merge.ensures,
-  omega (arith, c.ranges.level, merge_above c.requires.1 c.if-level-lowest.false),
+  merge_beside _ c.requires _ c.seek-s.ensures (merge_above c.requires c.if-level-lowest.false) c.depth-c.ensures c.child-below.ensures c.merge.ensures,
+  omega (arith, c.ranges.level, merge_above c.requires c.if-level-lowest.false),
 )
 
 pub returns : goal.returns
 returns t c =
-    merge_up _ c.requires.1 _ c.seek-s.ensures (merge_above c.requires.1 c.if-level-lowest.false) c.depth-c.ensures c.child-below.ensures c.merge.ensures c.join_beside.ensures
+    merge_up _ c.requires _ c.seek-s.ensures (merge_above c.requires c.if-level-lowest.false) c.depth-c.ensures c.child-below.ensures c.merge.ensures c.join_beside.ensures

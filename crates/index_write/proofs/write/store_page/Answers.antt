@@ -13,10 +13,10 @@ pub write_row-requires : goal.write_row-requires
 write_row-requires c = simp length-set (omega arith, c.requires.order, c.requires.places, c.requires.fitting)
 
 pub clear-requires : goal.clear-requires
-clear-requires c = omega (arith, simp length-set at c.write_row.auto.0)
+clear-requires c = omega (arith, simp length-set at c.write_row.auto.index)
 
 pub shape_of-index : goal.shape_of-index
-shape_of-index c = c.clear.auto.0 ∙ c.write_row.auto.0 ∙ simp length-set
+shape_of-index c = c.clear.auto.index ∙ c.write_row.auto.index ∙ simp length-set
 
 pub returns : goal.returns
 returns c = rw (← c.page_start-at.ensures) (page_over _ _ _ _ _ _ _ _ (length_part _ _ (search rules, search rules) _ _ c.requires.places) c.requires.few c.write_row.ensures (rw c.wide.ensures.0 at c.clear.ensures))

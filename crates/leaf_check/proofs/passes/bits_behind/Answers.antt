@@ -12,7 +12,7 @@ pub returns-then-n-eq64 : goal.returns-then-n-eq64
 returns-then-n-eq64 c = sym (ap (λ (n : ℕ). 2 ^ n) c.if-n-eq64.true)
 
 pub overflow_sub-result : goal.overflow_sub-result
-overflow_sub-result c = omega (arith, power _ (shl-result BARE (c)), pow_pos (c.args.w - c.args.t))
+overflow_sub-result c = omega (arith, power _ (shl-result c), pow_pos (c.args.w - c.args.t))
 
 pub returns : goal.returns
-returns c = omega (arith, power _ (shl-result BARE (c)), pow_pos (c.args.w - c.args.t))
+returns c = omega (arith, power _ (shl-result c), pow_pos (c.args.w - c.args.t))

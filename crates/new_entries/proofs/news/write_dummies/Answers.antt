@@ -25,7 +25,7 @@ overflow_add-next c =
 pub loop-position-preserved : goal.loop-position-preserved
 loop-position-preserved c =
     let inv = c.loop-position.invariant in
-    (inv.0, inv.1, inv.2, inv.3, marking_more c.loop-position-test.true inv.2 c.next_position-position-in-loop-position.ensures inv.4 c.write_entry.auto.0 c.write_entry.ensures)
+    (inv.0, inv.1, inv.2, inv.3, marking_more c.loop-position-test.true inv.2 c.next_position-position-in-loop-position.ensures inv.4 c.write_entry.auto.index c.write_entry.ensures)
 
 pub shape_of-index : goal.shape_of-index
 shape_of-index c = c.loop-position.invariant.4.long

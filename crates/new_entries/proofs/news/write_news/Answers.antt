@@ -26,7 +26,7 @@ overflow_cast-news-2 c = omega (arith, c.requires.0.between.high_inside, c.requi
 pub write_entry-requires-2 : goal.write_entry-requires-2
 write_entry-requires-2 c =
     let pre = c.requires in
-    (omega (arith, pre.1, both_count _ _ _ pre.0 c.if-news.false, c.write_dummies-next.ensures.1, c.write_dummies-next.auto.0), omega (arith, pre.0.first_fits))
+    (omega (arith, pre.1, both_count _ _ _ pre.0 c.if-news.false, c.write_dummies-next.ensures.1, c.write_dummies-next.auto.index), omega (arith, pre.0.first_fits))
 
 pub overflow_add-next : goal.overflow_add-next
 overflow_add-next c =
@@ -39,10 +39,10 @@ overflow_cast-news-3 c = omega (arith, c.requires.0.closing, c.requires.0.betwee
 pub write_entry-requires-3 : goal.write_entry-requires-3
 write_entry-requires-3 c =
     let pre = c.requires in
-    (omega (arith, pre.1, both_count _ _ _ pre.0 c.if-news.false, c.write_dummies-next.ensures.1, c.write_dummies-next.auto.0, c.write_entry-2.auto.0), omega (arith, pre.0.second_fits))
+    (omega (arith, pre.1, both_count _ _ _ pre.0 c.if-news.false, c.write_dummies-next.ensures.1, c.write_dummies-next.auto.index, c.write_entry-2.auto.index), omega (arith, pre.0.second_fits))
 
 pub shape_of-index : goal.shape_of-index
-shape_of-index c = c.write_entry-3.auto.0 ∙ c.write_entry-2.auto.0 ∙ c.write_dummies-next.auto.0
+shape_of-index c = c.write_entry-3.auto.index ∙ c.write_entry-2.auto.index ∙ c.write_dummies-next.auto.index
 
 pub returns : goal.returns
 returns c = both_written c.args.w c.args.key c.args.news c.if-news.false _ _ c.write_dummies-next.ensures.0 c.write_dummies-next.ensures.1 c.write_entry-2.ensures c.write_entry-3.ensures

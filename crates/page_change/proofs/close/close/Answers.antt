@@ -23,7 +23,7 @@ overflow_sub-index c =
     omega (arith, row_count c.requires.0 _ _ c.requires.1 c.requires.2 c.count.ensures c.wide-n.ensures.0, c.requires.2)
 
 pub shape_of-index : goal.shape_of-index
-shape_of-index c = simp length-set c.close_up.auto.0
+shape_of-index c = simp length-set c.close_up.auto.index
 
 pub returns : goal.returns
 returns c =

@@ -26,7 +26,7 @@ overflow_cast-index c =
     omega (arith, entries_counted _ _ _ c.wide-n.ensures.0 c.count.ensures, pre.inside, pre.room, pre.some)
 
 pub shape_of-index : goal.shape_of-index
-shape_of-index c = simp length-set c.move_up.auto.0
+shape_of-index c = simp length-set c.move_up.auto.index
 
 pub returns : goal.returns
 returns c =

@@ -31,13 +31,13 @@ met : (t : ℕ) (c : page-ok-lts.Else1 (page-ok-claims t) (page-ok-at t) page-ok
 met t c = met_page c.before.before.before.before.before.before.before.requires.1 c.before.before.before.enter.ensures (not-false _ c.if1.false)
 
 pub child_ok-page_ok-requires : goal.child_ok-page_ok-requires
-child_ok-page_ok-requires t c = (let m = c.requires.0 in omega (arith, m, c.requires.1.1), c.requires.1.0)
+child_ok-page_ok-requires t c = (let m = c.decreases in omega (arith, m, c.requires.1), c.decreases)
 
 pub page_ok-enter-requires : goal.page_ok-enter-requires
-page_ok-enter-requires t c = (c.requires.1.table, c.requires.1.long)
+page_ok-enter-requires t c = (c.requires.table, c.requires.long)
 
 pub page_ok-returns-then-not-enter : goal.page_ok-returns-then-not-enter
-page_ok-returns-then-not-enter t c = walked_refused c.requires.1 c.enter.ensures (not-true _ c.if-not-enter.true-raw) _ one_fault
+page_ok-returns-then-not-enter t c = walked_refused c.requires c.enter.ensures (not-true _ c.if-not-enter.true-raw) _ one_fault
 
 pub page_ok-scan_leaves-requires : goal.page_ok-scan_leaves-requires
 page_ok-scan_leaves-requires t c = leaves_pre (met t BARE (c.before.before.before.before))
@@ -67,10 +67,10 @@ pub page_ok-child-child-requires : goal.page_ok-child-child-requires
 page_ok-child-child-requires t c = let l = leaves_pre (met t BARE (c.before.before.before.before.before.before.before.before)) in (l.within, entry_few c.args.h _ _ _ _ (c.wide-n.ensures.0 ∙ c.count.ensures) l.few c.loop-i-test.true)
 
 pub page_ok-child_ok-next-requires : goal.page_ok-child_ok-next-requires
-page_ok-child_ok-next-requires t c = let m = c.requires.0 in let l = c.if-level-eq0.false in let inv = c.loop-i.invariant in (omega (arith, m, l), (walk_on (met t BARE (c.before.before.before.before.before.before.before.before.before.before)) _ _ inv.1 inv.0.turned.marked inv.0.turned.carried, omega (arith, l)))
+page_ok-child_ok-next-requires t c = let m = c.decreases in let l = c.if-level-eq0.false in let inv = c.loop-i.invariant in (omega (arith, m, l), (walk_on (met t BARE (c.before.before.before.before.before.before.before.before.before.before)) _ _ inv.1 inv.0.turned.marked inv.0.turned.carried, omega (arith, l)))
 
 pub page_ok-shape_of-map-then-next-ne0 : goal.page_ok-shape_of-map-then-next-ne0
-page_ok-shape_of-map-then-next-ne0 t c = c.child_ok-next.auto.1.1.1.1.0 ∙ c.loop-i.invariant.1 ∙ met_long (met t BARE (c.before.before.before.before.before.before.before.before.before.before.before.before.before.before.before))
+page_ok-shape_of-map-then-next-ne0 t c = c.child_ok-next.auto.map ∙ c.loop-i.invariant.1 ∙ met_long (met t BARE (c.before.before.before.before.before.before.before.before.before.before.before.before.before.before.before))
 
 pub page_ok-returns-then-next-ne0 : goal.page_ok-returns-then-next-ne0
 page_ok-returns-then-next-ne0 t c = let a = c.args in walked_row_no (met t BARE (c.before.before.before.before.before.before.before.before.before.before.before.before.before.before.before)) c.if-next-ne0.true
@@ -79,7 +79,7 @@ page_ok-returns-then-next-ne0 t c = let a = c.args in walked_row_no (met t BARE 
 pub page_ok-loop-i-preserved : goal.page_ok-loop-i-preserved
 page_ok-loop-i-preserved t c = let a = c.args in let x = walked_at (entry_at a.h a.index.now.now a.page.0 _) c.depth-d.ensures c.child-child.ensures c.child_ok-next.ensures in let o = c.if-next-ne0.false in (
   row_more c.loop-i.invariant.0 c.loop-i-test.true x.scanned o _ c.depth-d.ensures (sym c.closes.ensures ∙ not-false _ c.if-not-closes.false-raw) _ (x.marks o),
-  c.child_ok-next.auto.1.1.1.1.0 ∙ c.loop-i.invariant.1,
+  c.child_ok-next.auto.map ∙ c.loop-i.invariant.1,
 )
 
 pub page_ok-shape_of-map : goal.page_ok-shape_of-map

@@ -20,7 +20,7 @@ pub returns-then-scan-wide16 : goal.returns-then-scan-wide16
 returns-then-scan-wide16 c = iff_no (λ t. c.if-scan-wide16.true (tree_live c.requires.2 c.page_ok-end.ensures c.if-end-ne0.false t ∙ sym c.wide16.ensures.0))
 
 pub all_cleared-requires : goal.all_cleared-requires
-all_cleared-requires c = (omega (arith, c.requires.0.table), omega (arith, c.requires.1, c.page_ok-end.auto.1.1.1.1.0), marks_small c.requires.2 c.page_ok-end.ensures c.if-end-ne0.false, marks_few c.requires.2 c.page_ok-end.ensures c.if-end-ne0.false)
+all_cleared-requires c = (omega (arith, c.requires.0.table), omega (arith, c.requires.1, c.page_ok-end.auto.map), marks_small c.requires.2 c.page_ok-end.ensures c.if-end-ne0.false, marks_few c.requires.2 c.page_ok-end.ensures c.if-end-ne0.false)
 
 pub returns : goal.returns
 returns c = iff_trans c.all_cleared.ensures (tree_cleared c.requires.2 c.page_ok-end.ensures c.if-end-ne0.false c.requires.0.table (not-false _ c.if-not-scan.false) (c.if-scan-wide16.false ∙ c.wide16.ensures.0))

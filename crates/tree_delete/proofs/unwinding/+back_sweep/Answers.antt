@@ -6,28 +6,28 @@ use native.Mathlib.Omega.{arith}
 use Rattle.tree_delete.proofs.unwinding.+back_sweep.Goals as goal
 
 pub back-step-requires : goal.back-step-requires
-back-step-requires t c = back_fits _ c.requires.1
+back-step-requires t c = back_fits _ c.requires
 
 pub back-returns-then-rank-eq0 : goal.back-returns-then-rank-eq0
 back-returns-then-rank-eq0 t c = back_leaf _ _ _ c.if-rank-eq0.true c.step.ensures
 
 pub back-page_of-page-requires : goal.back-page_of-page-requires
-back-page_of-page-requires t c = back_fits _ c.requires.1
+back-page_of-page-requires t c = back_fits _ c.requires
 
 pub back-load_page-row-requires : goal.back-load_page-row-requires
-back-load_page-row-requires t c = down_load _ _ c.page_of-page.ensures c.if-rank-eq0.false c.requires.1
+back-load_page-row-requires t c = down_load _ _ c.page_of-page.ensures c.if-rank-eq0.false c.requires
 
 pub back-sweep-done-requires : goal.back-sweep-done-requires
-back-sweep-done-requires t c = (let m = c.requires.0 in omega (arith, m, c.if-rank-eq0.false), down_sweep _ _ _ c.page_of-page.ensures c.if-rank-eq0.false c.requires.1 c.load_page-row.ensures (omega (arith, c.ranges.e)))
+back-sweep-done-requires t c = (let m = c.decreases in omega (arith, m, c.if-rank-eq0.false), down_sweep _ _ _ c.page_of-page.ensures c.if-rank-eq0.false c.requires c.load_page-row.ensures (omega (arith, c.ranges.e)))
 
 pub back-settle-requires : goal.back-settle-requires
-back-settle-requires t c = down_settle _ _ _ _ c.page_of-page.ensures c.if-rank-eq0.false c.requires.1 c.load_page-row.ensures.count refl c.sweep-done.ensures
+back-settle-requires t c = down_settle _ _ _ _ c.page_of-page.ensures c.if-rank-eq0.false c.requires c.load_page-row.ensures.count refl c.sweep-done.ensures
 
 pub back-returns : goal.back-returns
-back-returns t c = back_up _ _ _ _ c.page_of-page.ensures c.if-rank-eq0.false c.requires.1 c.load_page-row.ensures _ _ c.sweep-done.ensures _ _ c.settle.ensures
+back-returns t c = back_up _ _ _ _ c.page_of-page.ensures c.if-rank-eq0.false c.requires c.load_page-row.ensures _ _ c.sweep-done.ensures _ _ c.settle.ensures
 
 pub sweep-loop-i-init : goal.sweep-loop-i-init
-sweep-loop-i-init t c = sweep_start _ c.requires.1
+sweep-loop-i-init t c = sweep_start _ c.requires
 
 pub sweep-joined-all-requires : goal.sweep-joined-all-requires
 sweep-joined-all-requires t c = sweep_joined c.loop-i.invariant
@@ -42,7 +42,7 @@ pub sweep-pointer-p-requires : goal.sweep-pointer-p-requires
 sweep-pointer-p-requires t c = sweep_read c.loop-i.invariant c.loop-i-test.true
 
 pub sweep-back-x-requires : goal.sweep-back-x-requires
-sweep-back-x-requires t c = (let m = c.requires.0 in omega (arith, m), sweep_back c.loop-i.invariant c.loop-i-test.true _ _ c.depth-d.ensures c.pointer-p.ensures)
+sweep-back-x-requires t c = (let m = c.decreases in omega (arith, m), sweep_back c.loop-i.invariant c.loop-i-test.true _ _ c.depth-d.ensures c.pointer-p.ensures)
 
 pub sweep-put-slot-requires : goal.sweep-put-slot-requires
 sweep-put-slot-requires t c = sweep_put c.loop-i.invariant c.loop-i-test.true
