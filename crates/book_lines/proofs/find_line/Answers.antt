@@ -4,4 +4,4 @@ use Rattle.book_lines.specs.Lines.{find_line}
 use Rattle.book_lines.proofs.find_line.Goals as goal
 
 pub returns-in-Key : goal.returns-in-Key
-returns-in-Key c = sym (ap find_line c.tag-1.given.1)
+returns-in-Key c = sym (ap find_line c.in-Key.is)

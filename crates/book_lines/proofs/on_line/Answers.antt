@@ -8,7 +8,7 @@ use Rattle.book_lines.proofs.on_line.Goals as goal
 
 pub overflow_cast-result : goal.overflow_cast-result
 overflow_cast-result c =
-    omega (arith, subst (λ (w : Number). record_at_most 99999 w) c.written-1.given.1 c.requires)
+    omega (arith, subst (λ (w : Number). record_at_most 99999 w) c.in-Is.is c.requires)
 
 pub returns-in-Key : goal.returns-in-Key
-returns-in-Key c = sym (ap₂ on_line c.tag-1.given.1 c.written-1.given.1)
+returns-in-Key c = sym (ap₂ on_line c.in-Key.is c.in-Is.is)

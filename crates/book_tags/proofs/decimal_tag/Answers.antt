@@ -15,8 +15,8 @@ returns-in_default-national c = search rules
 
 pub returns-then-packed-eq0 : goal.returns-then-packed-eq0
 returns-then-packed-eq0 c =
-    sym (decimal_key _ _ _ _ c.country-1.given.1 c.national-1.given.1 _ c.pack-packed.ensures c.if-packed-eq0.true)
+    sym (decimal_key _ _ _ _ c.in-Is.is c.in-Is-national.is _ c.pack-packed.ensures c.if-packed-eq0.true)
 
 pub returns-else-packed-eq0 : goal.returns-else-packed-eq0
 returns-else-packed-eq0 c =
-    sym (decimal_refused _ _ _ _ c.country-1.given.1 c.national-1.given.1 _ c.pack-packed.ensures c.if-packed-eq0.false)
+    sym (decimal_refused _ _ _ _ c.in-Is.is c.in-Is-national.is _ c.pack-packed.ensures c.if-packed-eq0.false)

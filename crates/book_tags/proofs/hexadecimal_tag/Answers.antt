@@ -10,7 +10,7 @@ unfolding hexadecimal_tag
 returns-in_default c = search rules
 
 pub returns-then-unpacked-eq0 : goal.returns-then-unpacked-eq0
-returns-then-unpacked-eq0 c = sym (hexadecimal_key _ _ c.code-1.given.1 _ c.unpack-unpacked.ensures c.if-unpacked-eq0.true)
+returns-then-unpacked-eq0 c = sym (hexadecimal_key _ _ c.in-Is.is _ c.unpack-unpacked.ensures c.if-unpacked-eq0.true)
 
 pub returns-else-unpacked-eq0 : goal.returns-else-unpacked-eq0
-returns-else-unpacked-eq0 c = sym (hexadecimal_refused _ _ c.code-1.given.1 _ c.unpack-unpacked.ensures c.if-unpacked-eq0.false)
+returns-else-unpacked-eq0 c = sym (hexadecimal_refused _ _ c.in-Is.is _ c.unpack-unpacked.ensures c.if-unpacked-eq0.false)

@@ -43,7 +43,9 @@ pointer-requires t c =
     (descend_within pre, descend_inside pre _ c.seek-s.ensures)
 
 pub depth-requires : goal.depth-requires
-depth-requires t c = descend-pointer-requires t BARE (c.before) κs
+depth-requires t c =
+    let pre = held _ c.read-h.ensures.entries (c.deep-w.ensures ∙ c.read-h.ensures.width) c.requires.page_is in
+    (descend_within pre, descend_inside pre _ c.seek-s.ensures)
 
 pub leaf_number-requires : goal.leaf_number-requires
 leaf_number-requires t c =

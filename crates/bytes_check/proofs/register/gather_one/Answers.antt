@@ -10,4 +10,4 @@ overflow_add-result c =
 pub returns : goal.returns
 returns c =
     let wide = c.wide-byte in
-    gathered_more _ _ _ c.requires.1 _ _ (omega (arith, c.shared_slice_known-4-1.given c.args.i)) wide.ensures.0 (omega (arith, c.requires.0.bytes c.args.i c.requires.1, wide.ensures.0)) (omega arith) c.wrapping_sub_u64.ensures c.requires.2
+    gathered_more _ _ _ c.requires.1 _ _ (omega (arith, c.type_inv.keys c.args.i)) wide.ensures.0 (omega (arith, c.requires.0.bytes c.args.i c.requires.1, wide.ensures.0)) (omega arith) c.wrapping_sub_u64.ensures.value c.requires.2

@@ -20,7 +20,7 @@ live-key keys pointer r key n e = rw (ne_eqb pointer 65535 n, e)
 -- src/rows.rt:38:9
 pub returns-in_default : goal.returns-in_default
 returns-in_default c =
-    dummy-key c.args.keys.now c.args.pointer c.args.key (dummy_pointer _ _ c.answer_of.ensures c.enum_told-1.given.1)
+    dummy-key c.args.keys.now c.args.pointer c.args.key (dummy_pointer _ _ c.answer_of.ensures c.in_default.is)
 
 -- src/rows.rt:41:5
 pub bounds-keys-at : goal.bounds-keys-at
