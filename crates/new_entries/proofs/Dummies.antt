@@ -1,5 +1,5 @@
 -- The dummies that 5.1 puts in, one after the other. Assumes nothing.
-use mathlib.Core.Path.{◌≡◌, refl, sym, ap, ap₂, ◌∙◌}
+use mathlib.Core.Path.{◌≡◌, refl, sym, ap, ap₂, subst, ◌∙◌}
 use mathlib.Core.Logic.{◌⊎◌, inl, inr}
 use mathlib.Core.Bool.{Bool, true, false, cond, ◌&&◌}
 use mathlib.Core.Option.{none}
@@ -55,7 +55,8 @@ dummies_skip high i (suc m) (false ∷ k) rest h =
     rw z (dummies_skip high (suc i) m k rest (omega arith))
 dummies_skip high i (suc m) (true ∷ k) rest h =
     let z : i + suc m ≡ suc i + m = omega arith in
-    rw z (dummies_low (suc i + m) high (suc i) (positions (suc i) k) rest (omega arith) ∙ dummies_skip high (suc i) m k rest (omega arith))
+    subst (λ (n : ℕ). dummies n high (positions i (true ∷ k)) rest ≡ dummies n high (positions n (drop (suc m) (true ∷ k))) rest) (sym z)
+    (dummies_low (suc i + m) high (suc i) (positions (suc i) k) rest (omega arith) ∙ dummies_skip high (suc i) m k rest (omega arith))
 
 -- No position at or above high gives a dummy.
 dummies_none : (low high p : ℕ) (k : Key) (rest : List Entry) → high ≤ suc p → dummies low high (positions p k) rest ≡ rest
