@@ -11,7 +11,7 @@ pub overflow_add-level : goal.overflow_add-level
 overflow_add-level c = omega (arith, take_level c.requires)
 
 pub remove-left-requires : goal.remove-left-requires
-remove-left-requires c = take_remove c.requires (λ i. omega (arith, c.type_inv.index i)) _ _ c.next_position-position.ensures c.pointer_to-p.ensures
+remove-left-requires c = take_remove c.requires (λ i. omega (arith, c.slice_known-1.given i)) _ _ c.next_position-position.ensures c.pointer_to-p.ensures
 
 pub page_of-page-requires : goal.page_of-page-requires
 page_of-page-requires c =

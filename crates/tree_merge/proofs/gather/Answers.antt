@@ -13,7 +13,7 @@ pub store_page-requires : goal.store_page-requires
 store_page-requires c =
     let entries = entries_counted _ _ _ c.wide-n.ensures.0 c.count.ensures in
     gather_store c.requires c.load_page-first.ensures entries c.append_page-row.ensures (omega (arith, c.ranges.e))
-    (λ i. omega (arith, c.type_inv.index i))
+    (λ i. omega (arith, c.slice_known-1.given i))
 
 pub returns : goal.returns
 returns c =

@@ -12,4 +12,4 @@ enter-requires c =
     (omega (arith, free.inside, free.sound.lengths.register), free.inside)
 
 pub returns : goal.returns
-returns c = open_done c.requires (λ i. omega (arith, c.type_inv.index i)) c.open_leaf.ensures c.enter.ensures.0 c.enter.ensures.1
+returns c = open_done c.requires (λ i. omega (arith, c.slice_known-1.given i)) c.open_leaf.ensures c.enter.ensures.0 c.enter.ensures.1

@@ -18,7 +18,7 @@ depth-c-requires t c =
 
 pub blank_entry-requires : goal.blank_entry-requires
 blank_entry-requires t c =
-    blank_give _ c.requires _ c.seek-s.ensures c.if-level-eq0.true (λ i. omega (arith, c.type_inv.index i)) c.depth-c.ensures
+    blank_give _ c.requires _ c.seek-s.ensures c.if-level-eq0.true (λ i. omega (arith, c.slice_known-1.given i)) c.depth-c.ensures
 
 pub returns-then-level-eq0 : goal.returns-then-level-eq0
 returns-then-level-eq0 t c =
