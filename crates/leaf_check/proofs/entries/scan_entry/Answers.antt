@@ -3,7 +3,6 @@ use Rattle.leaf_list.proofs.CheckLoop.{fits_depth}
 use Rattle.leaf_list.specs.Register.{key_at, in_use}
 use Rattle.index_table.specs.Pages.{record_of}
 use Rattle.std.proofs.Common.{sym, ◌∙◌, rules}
-use borrow.Author.Tests.{not-true, not-false}
 use Rattle.leaf_check.proofs.EntryTests.{entry_closed, entry_refused, entry_beyond, entry_last, entry_next}
 use Rattle.leaf_check.proofs.entries.scan_entry.Goals as goal
 
@@ -11,16 +10,16 @@ pub returns-then-s : goal.returns-then-s
 returns-then-s c = entry_closed _ _ _ _ _ _ c.args.p c.if-s.true
 
 pub returns-then-not-entry_fits : goal.returns-then-not-entry_fits
-returns-then-not-entry_fits c = entry_refused _ _ _ _ _ _ c.args.p c.if-s.false (sym c.entry_fits.ensures ∙ not-true _ c.if-not-entry_fits.true-raw)
+returns-then-not-entry_fits c = entry_refused _ _ _ _ _ _ c.args.p c.if-s.false (sym c.entry_fits.ensures ∙ c.if-not-entry_fits.true)
 
 pub returns-then-too_many : goal.returns-then-too_many
 returns-then-too_many c = entry_beyond _ _ _ _ _ _ c.args.p (sym c.too_many.ensures ∙ c.if-too_many.true)
 
 pub returns-then-d-eq0 : goal.returns-then-d-eq0
-returns-then-d-eq0 c = entry_last _ _ _ _ _ _ c.args.p c.if-s.false (sym c.entry_fits.ensures ∙ not-false _ c.if-not-entry_fits.false-raw) (sym c.too_many.ensures ∙ c.if-too_many.false) c.requires.2 _ c.live_behind-live.ensures c.if-d-eq0.true
+returns-then-d-eq0 c = entry_last _ _ _ _ _ _ c.args.p c.if-s.false (sym c.entry_fits.ensures ∙ c.if-not-entry_fits.false) (sym c.too_many.ensures ∙ c.if-too_many.false) c.requires.2 _ c.live_behind-live.ensures c.if-d-eq0.true
 
 pub next_discriminator-disc-requires : goal.next_discriminator-disc-requires
-next_discriminator-disc-requires c = let a = c.args in (search rules, search rules, fits_depth a.w (key_at a.keys.now) (in_use a.used.now) a.s.disc a.s.trail a.s.dummy a.d (record_of 65535 a.p) (sym c.entry_fits.ensures ∙ not-false _ c.if-not-entry_fits.false-raw), search rules)
+next_discriminator-disc-requires c = let a = c.args in (search rules, search rules, fits_depth a.w (key_at a.keys.now) (in_use a.used.now) a.s.disc a.s.trail a.s.dummy a.d (record_of 65535 a.p) (sym c.entry_fits.ensures ∙ c.if-not-entry_fits.false), search rules)
 
 pub returns : goal.returns
-returns c = entry_next _ _ _ _ _ _ c.args.p c.if-s.false (sym c.entry_fits.ensures ∙ not-false _ c.if-not-entry_fits.false-raw) (sym c.too_many.ensures ∙ c.if-too_many.false) c.requires.2 _ c.live_behind-live.ensures c.if-d-eq0.false _ c.next_discriminator-disc.ensures.0 c.next_discriminator-disc.ensures.1
+returns c = entry_next _ _ _ _ _ _ c.args.p c.if-s.false (sym c.entry_fits.ensures ∙ c.if-not-entry_fits.false) (sym c.too_many.ensures ∙ c.if-too_many.false) c.requires.2 _ c.live_behind-live.ensures c.if-d-eq0.false _ c.next_discriminator-disc.ensures.0 c.next_discriminator-disc.ensures.1

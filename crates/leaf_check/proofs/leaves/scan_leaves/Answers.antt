@@ -1,5 +1,5 @@
 -- The entries of a page of level 0: after each turn what is left is in order exactly if the whole row is. Assumes nothing.
-use Rattle.std.proofs.Common.{◌+◌, ◌-◌, ◌∙◌, arith, eq-eqb, ne_eqb}
+use Rattle.std.proofs.Common.{◌+◌, ◌∙◌, arith, eq-eqb, ne_eqb}
 use borrow.Author.Tests.{not-true, not-false}
 use Rattle.leaf_check.proofs.RowTurns.{entry_few, row_start, row_depth, row_all, leaf_sound, leaf_closed, leaf_last}
 use Rattle.leaf_check.proofs.UncountedTurns.{carried_uncounted, carried_counted, too_many_live, turn_counted}
@@ -33,7 +33,7 @@ returns-then-not-record_told c =
     let pre = c.requires in
     first_stops
     (row_start _ _ _ (c.wide-n.ensures.0 ∙ c.count.ensures) (λ q. omega arith) (carried_uncounted (omega (arith, c.wide16-held.ensures)) pre.carried))
-    c.if-s.false (omega (arith, c.if-n-eq0.false)) c.pass_start-pass.result.disc c.pass_start-pass.result.low (rw (← c.pointer-first.ensures.0, ← c.record_told.ensures) (not-true _ c.if-not-record_told.true-raw)) (omega (arith, c.wide16-held.ensures)) _ one_fault
+    c.if-s.false (omega (arith, c.if-n-eq0.false)) c.pass_start-pass.result.disc c.pass_start-pass.result.low (rw (← c.pointer-first.ensures.0, ← c.record_told.ensures) c.if-not-record_told.true) (omega (arith, c.wide16-held.ensures)) _ one_fault
 
 pub loop-i-init : goal.loop-i-init
 loop-i-init c =
@@ -51,7 +51,7 @@ loop-i-init c =
       omega arith,
       pass_begun (row_start _ _ _ (c.wide-n.ensures.0 ∙ c.count.ensures) (λ q. omega arith) (carried_uncounted (omega (arith, c.wide16-held.ensures)) pre.carried))
           c.if-s.false c.wide-w.ensures.0 c.wide-close.ensures.0 c.pass_start-pass.ensures
-          (rw (← c.pointer-first.ensures.0, ← c.record_told.ensures) (not-false _ c.if-not-record_told.false-raw)),
+          (rw (← c.pointer-first.ensures.0, ← c.record_told.ensures) c.if-not-record_told.false),
     )
 
 pub depth-d-requires : goal.depth-d-requires

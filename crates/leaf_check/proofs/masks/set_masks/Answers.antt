@@ -1,5 +1,5 @@
 -- The masks before depth d are set, and the next one is at hand. Assumes nothing.
-use Rattle.std.proofs.Common.{◌≡◌, ◌+◌, ◌-◌, ◌<◌, refl, subst, arith}
+use Rattle.std.proofs.Common.{◌≡◌, ◌+◌, ◌<◌, refl, subst, arith}
 use Rattle.leaf_check.proofs.DepthTable.{SetBefore, half, set_none, set_more, set_all}
 use Rattle.leaf_check.proofs.masks.set_masks.Goals as goal
 

@@ -1,5 +1,5 @@
 -- All bits behind some are one less than a power of two. Assumes nothing.
-use Rattle.std.proofs.Common.{◌≡◌, ℕ, ◌-◌, ◌^◌, sym, ap, arith, pow_pos}
+use Rattle.std.proofs.Common.{◌≡◌, ℕ, ◌-◌, ◌^◌, ◌<◌, sym, ap, arith, pow_pos}
 use Rattle.leaf_list.proofs.KeyLaws.{power}
 use Rattle.leaf_check.proofs.passes.bits_behind.Goals as goal
 
@@ -12,7 +12,11 @@ pub returns-then-n-eq64 : goal.returns-then-n-eq64
 returns-then-n-eq64 c = sym (ap (λ (n : ℕ). 2 ^ n) c.if-n-eq64.true)
 
 pub overflow_sub-result : goal.overflow_sub-result
-overflow_sub-result c = omega (arith, power _ (shl-result c), pow_pos (c.args.w - c.args.t))
+overflow_sub-result c =
+    let few : c.args.w - c.args.t < 64 = omega arith in
+    omega (arith, power _ few, pow_pos (c.args.w - c.args.t))
 
 pub returns : goal.returns
-returns c = omega (arith, power _ (shl-result c), pow_pos (c.args.w - c.args.t))
+returns c =
+    let few : c.args.w - c.args.t < 64 = omega arith in
+    omega (arith, power _ few, pow_pos (c.args.w - c.args.t))

@@ -1,6 +1,6 @@
 -- One entry of a pass: its depth, then its pointer. Assumes nothing.
 use Rattle.std.proofs.Common.{◌≢◌, sym, refl, ◌∙◌, add-one, arith, eq-eqb, ne_eqb}
-use borrow.Author.Tests.{not-true, not-false}
+use Rattle.leaf_list.specs.Register.{key_at, in_use}
 use Rattle.leaf_check.proofs.EntryTests.{beyond_free, record_free}
 use Rattle.leaf_check.proofs.PassTests.{pass_refused, nil_fits, live_fits, pass_made}
 use Rattle.leaf_check.proofs.passes.pass_entry.Goals as goal
@@ -8,27 +8,27 @@ use Rattle.leaf_check.proofs.passes.pass_entry.Goals as goal
 pub returns-then-not-depth_fits : goal.returns-then-not-depth_fits
 returns-then-not-depth_fits c =
     let a = c.args in
-    λ w d pre b used g q k e τ dummy m. pass_refused w a.keys.now used k a.s d a.below a.p pre b (sym c.depth_fits.ensures ∙ not-true _ c.if-not-depth_fits.true-raw) τ dummy m _ c.stopped.ensures
+    λ w d pre b used g q k e τ dummy m. pass_refused w a.keys.now used k a.s d a.below a.p pre b (sym c.depth_fits.ensures ∙ c.if-not-depth_fits.true) τ dummy m _ c.stopped.ensures
 
 pub returns-then-r-keys : goal.returns-then-r-keys
 returns-then-r-keys c =
     let a = c.args in
-    let fits = sym c.depth_fits.ensures ∙ not-false _ c.if-not-depth_fits.false-raw in
+    let fits = sym c.depth_fits.ensures ∙ c.if-not-depth_fits.false in
     let inside = c.if-r-keys.true in
     λ w d pre b used g q k e τ dummy m.
     let live : a.p ≢ 65535 = λ z. omega (arith, g.long, g.few, inside) in
     pass_made w a.keys.now used k a.s d a.below a.p pre b fits m a.most e _
     (c.key_fits.ensures ∙ live_fits w a.keys.now used k a.s d a.below a.p pre b fits m g q inside)
-    c.wrapping_add_u64-disc.ensures refl (rw (ne_eqb a.p 65535 live)) (rw (ne_eqb a.p 65535 live))
+    c.wrapping_add_u64-disc.ensures.value refl (rw (ne_eqb a.p 65535 live)) (rw (ne_eqb a.p 65535 live))
 
 pub returns-then-r-ne65535 : goal.returns-then-r-ne65535
 returns-then-r-ne65535 c =
     let a = c.args in
-    let fits = sym c.depth_fits.ensures ∙ not-false _ c.if-not-depth_fits.false-raw in
+    let fits = sym c.depth_fits.ensures ∙ c.if-not-depth_fits.false in
     let live = c.if-r-ne65535.true in
     λ w d pre b used g q k e τ dummy m. pass_made w a.keys.now used k a.s d a.below a.p pre b fits m a.most e _
-    (record_free _ _ _ _ _ _ _ live (beyond_free used a.p (omega (arith, g.long, c.if-r-keys.false))))
-    c.wrapping_add_u64-disc.ensures refl (rw (ne_eqb a.p 65535 live)) (rw (ne_eqb a.p 65535 live))
+    (record_free w (key_at a.keys.now) (in_use used) a.s.disc τ d a.p live (beyond_free used a.p (omega (arith, g.long, c.if-r-keys.false))))
+    c.wrapping_add_u64-disc.ensures.value refl (rw (ne_eqb a.p 65535 live)) (rw (ne_eqb a.p 65535 live))
 
 pub overflow_add-result : goal.overflow_add-result
 overflow_add-result c = omega (arith, c.requires)
@@ -36,8 +36,8 @@ overflow_add-result c = omega (arith, c.requires)
 pub returns : goal.returns
 returns c =
     let a = c.args in
-    let fits = sym c.depth_fits.ensures ∙ not-false _ c.if-not-depth_fits.false-raw in
+    let fits = sym c.depth_fits.ensures ∙ c.if-not-depth_fits.false in
     let nil = c.if-r-ne65535.false in
     λ w d pre b used g q k e τ dummy m. pass_made w a.keys.now used k a.s d a.below a.p pre b fits m a.most e _
     (nil_fits w a.keys.now used k a.s d a.below a.p pre b fits m nil)
-    c.wrapping_add_u64-disc.ensures refl (rw (eq-eqb a.p 65535 nil)) (rw (eq-eqb a.p 65535 nil) (add-one _))
+    c.wrapping_add_u64-disc.ensures.value refl (rw (eq-eqb a.p 65535 nil)) (rw (eq-eqb a.p 65535 nil) (add-one _))

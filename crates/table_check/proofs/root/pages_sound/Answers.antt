@@ -1,6 +1,5 @@
 -- The root's number, level and entries, and then the tree. Assumes nothing.
 use native.Mathlib.Omega.{arith}
-use borrow.Author.Tests.{not-true, not-false}
 use Rattle.index_table.specs.Layout.{layout_of}
 use Rattle.index_table.proofs.PageBytes.{within_table}
 use Rattle.bytes_check.proofs.Iff.{iff_no, iff_trans, said_no}
@@ -17,7 +16,7 @@ pub root_fits-requires : goal.root_fits-requires
 root_fits-requires c = within_table (layout_of c.args.h.entries) _ _ c.args.index.now (omega (arith, c.requires.table)) c.if-root-h.false
 
 pub returns-then-not-root_fits : goal.returns-then-not-root_fits
-returns-then-not-root_fits c = iff_no (root_refused _ _ _ _ _ c.level-level.ensures (said_no c.root_fits.ensures (not-true _ c.if-not-root_fits.true-raw)))
+returns-then-not-root_fits c = iff_no (root_refused _ _ _ _ _ c.level-level.ensures (said_no c.root_fits.ensures c.if-not-root_fits.true))
 
 pub returns : goal.returns
-returns c = iff_trans c.tree_sound.ensures (root_sound _ _ _ _ _ c.level-level.ensures (c.root_fits.ensures.0 (not-false _ c.if-not-root_fits.false-raw)))
+returns c = iff_trans c.tree_sound.ensures (root_sound _ _ _ _ _ c.level-level.ensures (c.root_fits.ensures.0 c.if-not-root_fits.false))
