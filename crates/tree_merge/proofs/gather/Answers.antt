@@ -1,4 +1,5 @@
 -- The left page is loaded, the right one's entries are appended, the row is stored in the left page, and the right one is freed. Assumes nothing.
+use borrow.Author.Rules.{rules}
 use native.Mathlib.Omega.{arith}
 use Rattle.index_write.proofs.LoadedRows.{entries_counted}
 use Rattle.tree_merge.proofs.GatheredPages.{gather_load, gather_store, gather_post}
@@ -12,8 +13,7 @@ append_page-row-requires c =
 pub store_page-requires : goal.store_page-requires
 store_page-requires c =
     let entries = entries_counted _ _ _ c.wide-n.ensures.0 c.count.ensures in
-    gather_store c.requires c.load_page-first.ensures entries c.append_page-row.ensures (omega (arith, c.ranges.e))
-    (λ i. omega (arith, c.slice_known-1.given i))
+    gather_store c.requires c.load_page-first.ensures entries c.append_page-row.ensures (omega (arith, c.ranges.e)) (search rules)
 
 pub returns : goal.returns
 returns c =
