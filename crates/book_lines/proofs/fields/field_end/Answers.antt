@@ -1,5 +1,4 @@
 -- The loop passes bytes of the first field until a tab or the end. Assumes nothing.
-use Prim.Native.Nat.{◌-◌}
 use native.Mathlib.Omega.{arith}
 use Rattle.book_lines.proofs.FieldLaws.{field_tab, field_more, field_none}
 use Rattle.book_lines.proofs.fields.field_end.Goals as goal

@@ -1,6 +1,5 @@
 -- The loop passes equal bytes until unequal ones or the end. Assumes nothing.
 use mathlib.Core.Path.{sym, ◌∙◌, refl}
-use Prim.Native.Nat.{◌-◌}
 use native.Mathlib.Omega.{arith}
 use Rattle.book_lines.proofs.FieldLaws.{same_lengths, same_not, same_more, same_end}
 use Rattle.book_lines.proofs.fields.same_bytes.Goals as goal

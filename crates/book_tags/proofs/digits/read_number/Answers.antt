@@ -1,6 +1,5 @@
 -- The loop takes digits into the value until a byte that is none, or the end. Assumes nothing.
 use mathlib.Core.Path.{sym, ◌∙◌, refl}
-use Prim.Native.Nat.{◌-◌}
 use native.Mathlib.Omega.{arith}
 use native.Mathlib.Numerals.{add-one}
 use Rattle.book_tags.proofs.NumberLaws.{number_none, number_more, number_end, digit_fits, digit_grows}
