@@ -12,7 +12,7 @@ use Rattle.leaf_list.specs.Keys.{Key, bits}
 use Rattle.leaf_list.specs.Entries.{Entry, entry, depth_of as entry_depth}
 use Rattle.leaf_list.specs.Search.{positions}
 use Rattle.leaf_list.proofs.Lists.{all_at}
-use Rattle.leaf_list.proofs.Positions.{Beyond, Rising, positions_beyond, positions_rise}
+use Rattle.leaf_list.proofs.Positions.{Rising, positions_beyond, positions_rise}
 use Rattle.page_tree.specs.Row.{depth_of, places, row_of}
 use Rattle.page_tree.specs.Rows.{All, Closed, last_depth, LastBelow}
 use Rattle.page_tree.specs.Tree.{Node, depth, Sound}
@@ -104,7 +104,8 @@ module _ {b : List ℕ} {e P n page w key position trail : ℕ} {news : Row} (pr
       let x : Ref = (pre.place.closing, page) in
       insert_below_in_place e w new (omega (arith, pre.two)) (suc n) bs trail (map node refs) (sound_node 65535 (layout_of e) P b (suc n) x pre.place.sound)
       (left_rising w key position)
-      (subst (λ (d : ℕ). Beyond d (position ∷ later w key position)) (sym (sound_depth 65535 (layout_of e) P b (suc n) x pre.place.sound)) (first_beyond pre.place.closing position (later w key position) pre.place.before (left_rising w key position)))
+      (first_beyond (depth (suc n) (map node refs)) position (later w key position)
+      (rw (sound_depth 65535 (layout_of e) P b (suc n) x pre.place.sound) pre.place.before) (left_rising w key position))
       (news_fit w news (find_below (suc n) bs trail (map node refs)) pre.few pre.closed)
 
   -- In the row of their depths the last is below all others.
@@ -187,7 +188,7 @@ module _ {b : List ℕ} {e P n page w key position trail : ℕ} {news : Row} (pr
         (insert_below_in_place e w new (omega (arith, pre.two)) n bs' s.trail (node y)
         (sound_node 65535 (layout_of e) P b n y (all_at (SoundBelow (layout_of e) P n b) refs s.at (0, 0) stop.inside pre.place.sound.2))
         (left_rising w key s.position)
-        (subst (λ (d : ℕ). Beyond d (s.position ∷ later w key s.position)) (sym y_depth) (first_beyond y.0 s.position (later w key s.position) y_before (left_rising w key s.position)))
+        (first_beyond (depth n (node y)) s.position (later w key s.position) (rw y_depth y_before) (left_rising w key s.position))
         (news_fit w news (find_below n bs' s.trail (node y)) pre.few found_closed)).closed
 
     module _ (row : Row) (fresh : ℕ) (below : Below e n news bs' s.trail (node y) row fresh) where

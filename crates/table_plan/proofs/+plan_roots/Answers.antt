@@ -14,9 +14,9 @@ plan_roots-above-requires t c =
 
 pub overflow_add-result : goal.overflow_add-result
 overflow_add-result t c =
-    let small = roots_small (search (rules, c.well_formed.1.1.0), search (rules, c.well_formed.1.1.0)) c.requires c.if-parts-le1.false _ c.last_depths-up.ensures _ c.plan_roots-above.ensures in
+    let small = roots_small (search rules, search rules) c.requires c.if-parts-le1.false _ c.last_depths-up.ensures _ c.plan_roots-above.ensures in
     omega (arith, small)
 
 pub returns : goal.returns
 returns t c =
-    roots_more (search (rules, c.well_formed.1.1.0), search (rules, c.well_formed.1.1.0)) c.requires c.if-parts-le1.false _ c.last_depths-up.ensures _ c.plan_roots-above.ensures
+    roots_more (search rules, search rules) c.requires c.if-parts-le1.false _ c.last_depths-up.ensures _ c.plan_roots-above.ensures

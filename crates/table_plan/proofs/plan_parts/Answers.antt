@@ -10,8 +10,7 @@ overflow_sub-n c =
 
 pub returns-then-n-parts : goal.returns-then-n-parts
 returns-then-n-parts c =
-    let good = c.well_formed.1.1.1.1.0 in
-    one_part (search (rules, good), search (rules, good)) c.requires c.wide-n.ensures.0 c.count.ensures
+    one_part (search rules, search rules) c.requires c.wide-n.ensures.0 c.count.ensures
     (omega (arith, c.if-n-parts.true, c.wide.ensures.0)) _ _ c.new.ensures _ c.depth-d.ensures c.push.ensures
 
 pub last_depths-row-requires : goal.last_depths-row-requires
