@@ -269,5 +269,5 @@ way_none (suc n) {e} {P} {b} {x} {w} {key} {position} τ few leaf lowest h a b' 
         → sparse_at e (pages_at (layout_of e) b') y.1 ≡ false
     calm zero σ t l g r = ap (sparse_at e (pages_at (layout_of e) b')) (sym r.page_is) ∙ k.own (omega (arith, l))
     calm (suc zero) σ t l g r =
-        ap (λ (row : List Ref). sparse e (length row)) (way_row σ t leaf g r b' d) ∙ sym r.2.Thin-is ∙ k.above (omega (arith, l))
+        ap (λ (row : List Ref). sparse e (length row)) (way_row σ t leaf g r b' d) ∙ sym r.2.thin_is ∙ k.above (omega (arith, l))
     calm (suc (suc m)) σ t l g r = absurd (omega (arith, l, k.high))

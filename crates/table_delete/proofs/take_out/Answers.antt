@@ -1,4 +1,5 @@
 -- From the root's entry, with the key's first position and no depth before or after. Assumes nothing.
+use borrow.Author.Rules.{rules}
 use Rattle.table_delete.proofs.TakingOut.{take_level, take_remove, take_fits, take_finish, take_post}
 use Rattle.tree_merge.proofs.MergeLaws.{covered_all}
 use native.Mathlib.Omega.{arith}
@@ -11,7 +12,7 @@ pub overflow_add-level : goal.overflow_add-level
 overflow_add-level c = omega (arith, take_level c.requires)
 
 pub remove-left-requires : goal.remove-left-requires
-remove-left-requires c = take_remove c.requires (λ i. omega (arith, c.slice_known-1.given i)) _ _ c.next_position-position.ensures c.pointer_to-p.ensures
+remove-left-requires c = take_remove c.requires (search rules) _ _ c.next_position-position.ensures c.pointer_to-p.ensures
 
 pub page_of-page-requires : goal.page_of-page-requires
 page_of-page-requires c =

@@ -1,4 +1,5 @@
 -- The page alone, the entry alone, or from the root down. Assumes nothing.
+use borrow.Author.Rules.{rules}
 use mathlib.Core.Path.{◌∙◌}
 use Rattle.tree_merge.proofs.MergeLaws.{covered_all}
 use native.Mathlib.Omega.{arith}
@@ -7,24 +8,24 @@ use Rattle.table_delete.proofs.take_out_at.Goals as goal
 
 pub strike_near-requires : goal.strike_near-requires
 strike_near-requires c =
-    take_near _ c.requires (λ i. omega (arith, c.slice_known-1.given i))
+    take_near _ c.requires (search rules)
 
 pub lowest_level-lowest-requires : goal.lowest_level-lowest-requires
 lowest_level-lowest-requires c =
-    near_within _ c.requires (λ i. omega (arith, c.slice_known-1.given i)) (c.strike_near.ensures.done c.if-strike_near.true)
+    near_within _ c.requires (search rules) (c.strike_near.ensures.done c.if-strike_near.true)
 
 pub returns-then-level-lowest : goal.returns-then-level-lowest
 returns-then-level-lowest c =
-    near_calm _ c.requires (λ i. omega (arith, c.slice_known-1.given i)) (c.strike_near.ensures.done c.if-strike_near.true) c.lowest_level-lowest.ensures c.if-level-lowest.true
+    near_calm _ c.requires (search rules) (c.strike_near.ensures.done c.if-strike_near.true) c.lowest_level-lowest.ensures c.if-level-lowest.true
 
 pub finish-requires : goal.finish-requires
 finish-requires c =
-    near_finish _ c.requires (λ i. omega (arith, c.slice_known-1.given i)) (c.strike_near.ensures.done c.if-strike_near.true) c.lowest_level-lowest.ensures
+    near_finish _ c.requires (search rules) (c.strike_near.ensures.done c.if-strike_near.true) c.lowest_level-lowest.ensures
 
 pub returns-then-strike_near : goal.returns-then-strike_near
 returns-then-strike_near c =
     let pre = c.requires in
-    quiet_taken _ pre.take pre.begins _ (near_quiet _ pre (λ i. omega (arith, c.slice_known-1.given i)) _ (c.strike_near.ensures.done c.if-strike_near.true)) _ _ c.finish.ensures
+    quiet_taken _ pre.take pre.begins _ (near_quiet _ pre (search rules) _ (c.strike_near.ensures.done c.if-strike_near.true)) _ _ c.finish.ensures
 
 pub next_position-position-requires : goal.next_position-position-requires
 next_position-position-requires c =
@@ -33,7 +34,7 @@ next_position-position-requires c =
 
 pub blank-requires : goal.blank-requires
 blank-requires c =
-    take_blank _ (far_pre (c.strike_near.ensures.none c.if-strike_near.false) c.requires.take) (λ i. omega (arith, c.slice_known-2-1.given i)) c.next_position-position.ensures
+    take_blank _ (far_pre (c.strike_near.ensures.none c.if-strike_near.false) c.requires.take) (search rules) c.next_position-position.ensures
 
 pub finish-requires-then-blank : goal.finish-requires-then-blank
 finish-requires-then-blank c =

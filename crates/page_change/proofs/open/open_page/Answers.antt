@@ -1,4 +1,5 @@
 -- The tail is moved, and the count set. Assumes nothing.
+use borrow.Author.Rules.{rules}
 use native.Mathlib.Omega.{arith}
 use lib.ListN.{length-set}
 use Rattle.index_write.proofs.LoadedRows.{entries_counted}
@@ -30,4 +31,4 @@ shape_of-index c = simp length-set c.move_up.auto.index
 
 pub returns : goal.returns
 returns c =
-    page_opened c.requires (λ i. omega (arith, c.slice_known-1.given i)) c.page_start-start.ensures (entries_counted _ _ _ c.wide-n.ensures.0 c.count.ensures) c.move_up.ensures
+    page_opened c.requires (search rules) c.page_start-start.ensures (entries_counted _ _ _ c.wide-n.ensures.0 c.count.ensures) c.move_up.ensures

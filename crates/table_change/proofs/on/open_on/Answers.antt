@@ -1,4 +1,5 @@
 -- A new key put into the page found and into the register. Assumes nothing.
+use borrow.Author.Rules.{rules}
 use native.Mathlib.Omega.{arith}
 use Rattle.table_change.proofs.Opening.{open_pre, open_done}
 use Rattle.table_change.proofs.on.open_on.Goals as goal
@@ -12,4 +13,4 @@ enter-requires c =
     (omega (arith, free.inside, free.sound.lengths.register), free.inside)
 
 pub returns : goal.returns
-returns c = open_done c.requires (λ i. omega (arith, c.slice_known-1.given i)) c.open_leaf.ensures c.enter.ensures.0 c.enter.ensures.1
+returns c = open_done c.requires (search rules) c.open_leaf.ensures c.enter.ensures.0 c.enter.ensures.1

@@ -1,4 +1,5 @@
 -- Level by level: the page is searched, and on level 0 the entry may become a dummy. Assumes nothing.
+use borrow.Author.Rules.{rules}
 use native.Mathlib.Omega.{arith}
 use Rattle.table_delete.proofs.Blanks.{blank_seek, blank_after, blank_read, blank_few, blank_give, blank_struck, blank_down, blank_up}
 use Rattle.table_delete.proofs.blank.+blank.Goals as goal
@@ -18,7 +19,7 @@ depth-c-requires t c =
 
 pub blank_entry-requires : goal.blank_entry-requires
 blank_entry-requires t c =
-    blank_give _ c.requires _ c.seek-s.ensures c.if-level-eq0.true (λ i. omega (arith, c.slice_known-1.given i)) c.depth-c.ensures
+    blank_give _ c.requires _ c.seek-s.ensures c.if-level-eq0.true (search rules) c.depth-c.ensures
 
 pub returns-then-level-eq0 : goal.returns-then-level-eq0
 returns-then-level-eq0 t c =
