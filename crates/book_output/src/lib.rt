@@ -1,11 +1,11 @@
-// What a read gave is answered, and the answers are written to standard output.
+// What a read gave is answered, and the answers are written.
 #![tactic(auto)]
 
 ghost use Rattle.day_book.specs.LineAnswers.{tables};
 ghost use Rattle.book_output.specs.Readings.{PiecesReady, PiecesDo, EndReady, EndDoes, ReadDoes};
 
 use book_input::Progress;
-use libc::STDOUT_FILENO;
+use std::io::Write;
 
 // How far the day book has come between two reads: the lines answered, the bytes held of the line that is being read, and whether it goes on.
 #[derive(Clone, Copy)]
@@ -16,7 +16,7 @@ pub struct Reading {
 }
 
 // All lines of a chunk, in pieces whose answers the buffer has room for, each written before the next. A failed write ends the day book.
-fn answer_pieces(
+fn answer_pieces<W: Write>(
     index: &mut [u8],
     keys: &mut [u64],
     used: &mut [u8],
@@ -24,6 +24,7 @@ fn answer_pieces(
     held: &mut [u8],
     out: &mut [u8],
     reading: Reading,
+    output: &mut W,
 ) -> Reading
     requires { PiecesReady chunk.now held.old out.old reading }
     ensures { PiecesDo (tables index.old keys.old used.old) chunk.now held.old reading (tables index.new keys.new used.new) held.new out.new result }
@@ -37,7 +38,7 @@ fn answer_pieces(
     while p.at < chunk.len() {
         p = book_chunks::answer_chunk(index, keys, used, chunk, held, out, p);
         let filled = p.filled;
-        if !io::write_all(STDOUT_FILENO, &out[..filled]) {
+        if output.write_all(&out[..filled]).is_err() {
             return Reading {
                 lines: p.lines,
                 held: p.held,
@@ -54,13 +55,14 @@ fn answer_pieces(
 }
 
 // At the end of the input a line without newline is answered, and the day book ends.
-fn answer_end(
+fn answer_end<W: Write>(
     index: &mut [u8],
     keys: &mut [u64],
     used: &mut [u8],
     held: &[u8],
     out: &mut [u8],
     reading: Reading,
+    output: &mut W,
 ) -> Reading
     requires { EndReady held.now out.old reading }
     ensures { EndDoes (tables index.old keys.old used.old) held.now reading (tables index.new keys.new used.new) out.new result }
@@ -73,7 +75,7 @@ fn answer_end(
     };
     let p = book_chunks::answer_last(index, keys, used, held, out, begun);
     let filled = p.filled;
-    io::write_all(STDOUT_FILENO, &out[..filled]);
+    let _ = output.write_all(&out[..filled]);
     Reading {
         lines: p.lines,
         held: p.held,
@@ -82,7 +84,7 @@ fn answer_end(
 }
 
 // What a read gave is answered. If it gave nothing the input is at its end.
-pub fn answer_read(
+pub fn answer_read<W: Write>(
     index: &mut [u8],
     keys: &mut [u64],
     used: &mut [u8],
@@ -90,12 +92,13 @@ pub fn answer_read(
     held: &mut [u8],
     out: &mut [u8],
     reading: Reading,
+    output: &mut W,
 ) -> Reading
     requires { PiecesReady chunk.now held.old out.old reading }
     ensures { ReadDoes (tables index.old keys.old used.old) chunk.now held.old reading (tables index.new keys.new used.new) held.new out.new result }
 {
     if chunk.len() == 0 {
-        return answer_end(index, keys, used, held, out, reading);
+        return answer_end(index, keys, used, held, out, reading, output);
     }
-    answer_pieces(index, keys, used, chunk, held, out, reading)
+    answer_pieces(index, keys, used, chunk, held, out, reading, output)
 }

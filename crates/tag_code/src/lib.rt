@@ -137,9 +137,8 @@ pub fn unpack(code: u64) -> Unpacked
     }
 }
 
-// `pack` for C.
-#[unsafe(no_mangle)]
-pub extern "C" fn tag_code_pack(
+// `pack` of the fields one by one, as C passes them.
+pub fn tag_code_pack(
     animal: u64,
     retag: u64,
     user: u64,
@@ -161,9 +160,8 @@ pub extern "C" fn tag_code_pack(
     })
 }
 
-// `unpack` for C.
-#[unsafe(no_mangle)]
-pub extern "C" fn tag_code_unpack(code: u64) -> Unpacked
+// `unpack` by the name that C calls.
+pub fn tag_code_unpack(code: u64) -> Unpacked
     ensures { result ≡ unpacked code }
 {
     unpack(code)

@@ -1,4 +1,4 @@
-// The calls as C calls them: each slice a pointer and a length.
+// The calls by the names that C calls them by.
 ghost use Rattle.std.specs.Prelude.{◌≡◌, true, ◌↔◌};
 ghost use Rattle.index_table.specs.Soundness.{Sound};
 ghost use Rattle.table_format.specs.Format.{FormatDoes};
@@ -10,8 +10,7 @@ ghost use Rattle.tag_index.specs.Loads.{LoadDoes};
 use crate::load::Movement;
 use table_find::answer::Answer;
 
-#[unsafe(no_mangle)]
-pub extern "C" fn tag_index_format(
+pub fn tag_index_format(
     index: &mut [u8],
     keys: &mut [u64],
     used: &mut [u8],
@@ -24,8 +23,7 @@ pub extern "C" fn tag_index_format(
     table_format::format(index, keys, used, w, e, p)
 }
 
-#[unsafe(no_mangle)]
-pub extern "C" fn tag_index_on(
+pub fn tag_index_on(
     index: &mut [u8],
     keys: &mut [u64],
     used: &mut [u8],
@@ -37,27 +35,19 @@ pub extern "C" fn tag_index_on(
     crate::change::on(index, keys, used, key, record)
 }
 
-#[unsafe(no_mangle)]
-pub extern "C" fn tag_index_off(
-    index: &mut [u8],
-    keys: &mut [u64],
-    used: &mut [u8],
-    key: u64,
-) -> Answer
+pub fn tag_index_off(index: &mut [u8], keys: &mut [u64], used: &mut [u8], key: u64) -> Answer
     ensures { OffDoes index.old keys.old used.old key index.new keys.new used.new result }
 {
     crate::change::off(index, keys, used, key)
 }
 
-#[unsafe(no_mangle)]
-pub extern "C" fn tag_index_find(index: &[u8], keys: &[u64], used: &[u8], key: u64) -> Answer
+pub fn tag_index_find(index: &[u8], keys: &[u64], used: &[u8], key: u64) -> Answer
     ensures { FindDoes index.now keys.now used.now key result }
 {
     crate::read::find(index, keys, used, key)
 }
 
-#[unsafe(no_mangle)]
-pub extern "C" fn tag_index_list(
+pub fn tag_index_list(
     index: &[u8],
     keys: &[u64],
     used: &[u8],
@@ -70,8 +60,7 @@ pub extern "C" fn tag_index_list(
     crate::read::list(index, keys, used, a, b, out)
 }
 
-#[unsafe(no_mangle)]
-pub extern "C" fn tag_index_check(index: &[u8], keys: &[u64], used: &[u8]) -> bool
+pub fn tag_index_check(index: &[u8], keys: &[u64], used: &[u8]) -> bool
     ensures { (result ≡ true) ↔ Sound index.now keys.now used.now }
 {
     crate::read::check(index, keys, used)
@@ -79,8 +68,7 @@ pub extern "C" fn tag_index_check(index: &[u8], keys: &[u64], used: &[u8]) -> bo
 
 // Works through a load. The borrow checker covers no function that is lent a slice of structs, so only this one is lent it, and tools/load-walk writes its
 // proof.
-#[unsafe(no_mangle)]
-pub extern "C" fn tag_index_load(
+pub fn tag_index_load(
     index: &mut [u8],
     keys: &mut [u64],
     used: &mut [u8],
