@@ -1,4 +1,4 @@
-//! Links the static libraries that `rt staticlib` writes.
+//! Links the static libraries that tools/staticlib writes.
 
 use std::path::Path;
 
@@ -11,7 +11,7 @@ fn main() {
         println!("cargo:rerun-if-changed={}", archive.display());
         assert!(
             archive.is_file(),
-            "{} is not there: `rt staticlib {name}` writes it",
+            "{} is not there: `tools/staticlib {name}` writes it",
             archive.display()
         );
         println!("cargo:rustc-link-lib=static={name}");

@@ -1,4 +1,4 @@
-//! Links the static libraries that `rt staticlib` writes.
+//! Links the static libraries that tools/staticlib writes.
 
 use std::path::Path;
 

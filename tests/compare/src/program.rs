@@ -10,9 +10,9 @@ pub fn root() -> PathBuf {
     Path::new(env!("CARGO_MANIFEST_DIR")).join("../..")
 }
 
-/// The program, started with pipes. `rt check daybook` builds it.
+/// The program, started with pipes. `rt run` in crates/daybook builds it.
 pub fn start() -> Child {
-    let program = root().join("target/bin/daybook");
+    let program = root().join("crates/daybook/out/daybook");
     Command::new(&program)
         .stdin(Stdio::piped())
         .stdout(Stdio::piped())
