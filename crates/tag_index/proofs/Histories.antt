@@ -6,13 +6,13 @@ use Rattle.leaf_list.specs.Herd.{Herd}
 use Rattle.index_table.proofs.SoundTables.{herd_held}
 use Rattle.table_format.proofs.EmptySound.{format_sound, format_lengths, format_width, format_empties}
 use Rattle.tag_index.specs.Tables.{Tables}
-use Rattle.tag_index.specs.Histories.{Call, Reply, OrderedMap, Sizes, sizes_of, Feed, key_with, empty_map, map_after, map_replies, map_behind}
+use Rattle.tag_index.specs.Histories.{Call, format, on, off, load, Reply, OrderedMap, Sizes, sizes_of, Feed, nothing_fed, on_fed, load_fed, key_with, empty_map, map_after, map_replies, map_behind}
 use Rattle.tag_index.specs.Claims.{byte_and_key, Agrees, Follows}
 use Rattle.tag_index.proofs.MapSteps.{Holds, Step, formats_step, ons_step, offs_step, finds_step, lists_step, checks_step}
 use Rattle.tag_index.proofs.LoadSteps.{loads_step}
 use Rattle.tag_index.proofs.ReachedPages.{reached_in_use, other_zero}
 use Rattle.tag_index.proofs.RecordKeys.{record_says}
-use Rattle.tag_index.proofs.Runs.{Run, History, end, formats as formats_run, ons, offs, finds, lists, checks, loads, formats_does}
+use Rattle.tag_index.proofs.Runs.{Run, History, end, formats as formats_run, ons, offs, finds, lists, checks, loads, loads_does, formats_does}
 
 -- Tables that hold a map agree with it.
 pub agrees : {z : Sizes} {m : OrderedMap} {t : Tables} → Holds z m t → Agrees m t
@@ -37,21 +37,21 @@ before s rest = record { replies = ap₂ (λ (y : Reply) (ys : List Reply). y �
 
 pub runs : {z : Sizes} {m : OrderedMap} {t v : Tables} {cs : List Call} {fs : List Feed} {rs : List Reply} → Holds z m t → Run t cs fs rs v → Runs z m cs fs rs v
 runs h end = record { replies = refl; holds = h }
-runs h (formats_run s run) =
+runs {z = z} {m = m} h (formats_run {w = w} {e = e} {p = p} s run) =
     let step = formats_step h s in
-    before step (runs step.holds run)
-runs h (ons s run) =
+    before step (runs {m = map_after z nothing_fed m (format w e p)} step.holds run)
+runs {z = z} {m = m} {t = t} h (ons {key = key} {r = r} s run) =
     let step = ons_step h s in
-    before step (runs step.holds run)
-runs h (offs s run) =
+    before step (runs {m = map_after z (on_fed t key r) m (on key r)} step.holds run)
+runs {z = z} {m = m} h (offs {key = key} s run) =
     let step = offs_step h s in
-    before step (runs step.holds run)
+    before step (runs {m = map_after z nothing_fed m (off key)} step.holds run)
 runs h (finds s run) = before (finds_step h s) (runs h run)
 runs h (lists s run) = before (lists_step h s) (runs h run)
 runs h (checks s run) = before (checks_step h s) (runs h run)
-runs h (loads s run) =
+runs {z = z} {m = m} {t = t} h (loads {xs = xs} {answers = answers} s run) =
     let step = loads_step h s in
-    before step (runs step.holds run)
+    before step (runs {m = map_after z (load_fed t xs (loads_does s).between) m (load xs answers)} step.holds run)
 
 module _ {calls : List Call} {feeds : List Feed} {replies : List Reply} {left : Tables} (h : History calls feeds replies left) where
   pub history_runs : Runs (sizes_of h.given) (empty_map h.width) calls feeds replies left

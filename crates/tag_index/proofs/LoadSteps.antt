@@ -55,9 +55,9 @@ pub record MovesStep (z : Sizes) (m : OrderedMap) (xs : List Movement) (ls : Lis
 pub moves_step : {z : Sizes} {m : OrderedMap} {t u : Tables} {xs : List Movement} {us : List Tables} {ns : List ℕ} → Holds z m t → Moved t xs us ns u
     → MovesStep z m xs (lates_of t xs us) ns u
 moves_step h end = record { numbers = refl; holds = h }
-moves_step h (move {m = x} d rest) =
+moves_step {z = z} {m = m} {t = t} h (move {m = x} d rest) =
     let one = move_step x.key x.«record» x.on h d in
-    let all = moves_step one.holds rest in
+    let all = moves_step {m = cond (eqb x.on 0) (map_off m x.key) (map_on z (late_of t x.key x.«record») m x.key x.«record»)} one.holds rest in
     record { numbers = ap₂ (λ (n : ℕ) (ns : List ℕ). n ∷ ns) one.number all.numbers; holds = all.holds }
 
 -- ---- the call

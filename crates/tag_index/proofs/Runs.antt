@@ -5,7 +5,8 @@ use mathlib.Core.Bool.{Bool, true}
 use mathlib.Core.List.{List, [], ◌∷◌}
 use Prim.Native.Nat.{ℕ}
 use contract.Lifetimes.{Lfts}
-use denote.Ref.{Bor}
+use denote.Bor.{Bor}
+use denote.MutBor.{MutBor}
 use Rattle.index_table.specs.Soundness.{Sound}
 use Rattle.table_find.specs.declared.answer.Answer.{Answer}
 use Rattle.table_format.specs.Format.{FormatDoes}
@@ -21,10 +22,19 @@ use Rattle.tag_index.proofs.c.tag_index_off.Reads as off_reads
 use Rattle.tag_index.proofs.c.tag_index_find.Reads as find_reads
 use Rattle.tag_index.proofs.c.tag_index_list.Reads as list_reads
 use Rattle.tag_index.proofs.c.tag_index_check.Reads as check_reads
-use Rattle.tag_index.proofs.LoadReads as load_reads
+use Rattle.tag_index.proofs.c.tag_index_load.Reads as load_reads
 
--- Three slices that are lent, and hold the tables.
+-- Three slices that are lent to be changed, and hold the tables.
 pub record Lent (t : Tables) : Type 0 where
+  pub index : MutBor (List ℕ)
+  pub keys : MutBor (List ℕ)
+  pub used : MutBor (List ℕ)
+  pub index_is : index.now ≡ t.index
+  pub keys_is : keys.now ≡ t.keys
+  pub used_is : used.now ≡ t.used
+
+-- Three slices that are lent to be read, and hold the tables.
+pub record Shown (t : Tables) : Type 0 where
   pub index : Bor (List ℕ)
   pub keys : Bor (List ℕ)
   pub used : Bor (List ℕ)
@@ -53,21 +63,21 @@ pub record Offs (key : ℕ) (t u : Tables) (a : Answer) : Type 0 where
 
 pub record Finds (key : ℕ) (t : Tables) (r : Answer) : Type 0 where
   pub κs : Lfts 3
-  pub lent : Lent t
+  pub lent : Shown t
   pub post : find_reads.Post κs (lent.index, (lent.keys, (lent.used, (key, tt)))) r (lent.index, (lent.keys, (lent.used, (key, tt))))
 
 pub record Lists (a b : ℕ) (out out₁ : List ℕ) (t : Tables) (r : Answer) : Type 0 where
   pub κs : Lfts 4
-  pub lent : Lent t
-  pub slice : Bor (List ℕ)
+  pub lent : Shown t
+  pub slice : MutBor (List ℕ)
   pub slice_is : slice.now ≡ out
-  pub slice₁ : Bor (List ℕ)
+  pub slice₁ : MutBor (List ℕ)
   pub slice₁_is : slice₁.now ≡ out₁
   pub post : list_reads.Post κs (lent.index, (lent.keys, (lent.used, (a, (b, (slice, tt)))))) r (lent.index, (lent.keys, (lent.used, (a, (b, (slice₁, tt))))))
 
 pub record Checks (t : Tables) (r : Bool) : Type 0 where
   pub κs : Lfts 3
-  pub lent : Lent t
+  pub lent : Shown t
   pub post : check_reads.Post κs (lent.index, (lent.keys, (lent.used, tt))) r (lent.index, (lent.keys, (lent.used, tt)))
 
 pub record Loads (xs : List Movement) (answers answers₁ : List ℕ) (t u : Tables) (a : Answer) : Type 0 where
@@ -76,9 +86,9 @@ pub record Loads (xs : List Movement) (answers answers₁ : List ℕ) (t u : Tab
   pub after : Lent u
   pub movements : Bor (List Movement)
   pub movements_is : movements.now ≡ xs
-  pub slice : Bor (List ℕ)
+  pub slice : MutBor (List ℕ)
   pub slice_is : slice.now ≡ answers
-  pub slice₁ : Bor (List ℕ)
+  pub slice₁ : MutBor (List ℕ)
   pub slice₁_is : slice₁.now ≡ answers₁
   pub post : load_reads.Post κs (before.index, (before.keys, (before.used, (movements, (slice, tt))))) a (after.index, (after.keys, (after.used, (movements, (slice₁, tt)))))
 

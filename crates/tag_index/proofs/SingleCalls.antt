@@ -7,7 +7,7 @@ use mathlib.Core.List.{List, [], ◌∷◌, map}
 use Prim.Native.Nat.{ℕ, zero, suc, ◌-◌}
 use lib.Dec.{leb, ltb, eqb, eqb-suc-zero}
 use lib.ListN.{length, take, set}
-use denote.Ref.{Bor}
+use denote.MutBor.{MutBor}
 use Rattle.leaf_list.specs.Register.{key_at, in_use, herd_of}
 use Rattle.page_tree.specs.Tree.{pages_of as tree_pages}
 use Rattle.page_tree.specs.OnPages.{on_tree}
@@ -186,8 +186,8 @@ moves_as_calls same r s (move {m = x} {n = n} d rest) run =
 -- ---- a run of the single calls that does what a load did
 
 -- Slices that hold the tables.
-abbrev slice : List ℕ → Bor (List ℕ)
-slice l = record { ref_ptr = (0, 0); now = l }
+abbrev slice : List ℕ → MutBor (List ℕ)
+slice l = record { ref_ptr = (0, 0); ghost_name = 0; now = l }
 
 abbrev lent : (t : Tables) → Lent t
 lent t = record { index = slice t.index; keys = slice t.keys; used = slice t.used; index_is = refl; keys_is = refl; used_is = refl }
