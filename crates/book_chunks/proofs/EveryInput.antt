@@ -4,7 +4,8 @@ use mathlib.Core.List.{List, [], ◌∷◌, ◌++◌, flatten}
 use Prim.Native.Nat.{ℕ, suc, ◌≤◌}
 use native.Mathlib.Omega.{arith}
 use contract.Lifetimes.{Lfts}
-use denote.Ref.{Bor}
+use denote.Bor.{Bor}
+use denote.MutBor.{MutBor}
 use lib.ListN.{length, take, drop_of_length-le}
 use Rattle.tag_index.specs.Tables.{Tables}
 use Rattle.tag_index.specs.Histories.{Feed, empty_map}
@@ -31,12 +32,12 @@ pub record ChunkCall (t : Tables) (chunk held : List ℕ) (p : Progress) (u : Ta
   pub after : Lent u
   pub text : Bor (List ℕ)
   pub text_is : text.now ≡ chunk
-  pub line : Bor (List ℕ)
+  pub line : MutBor (List ℕ)
   pub line_is : line.now ≡ held
-  pub line₁ : Bor (List ℕ)
+  pub line₁ : MutBor (List ℕ)
   pub line₁_is : line₁.now ≡ held₁
-  pub out : Bor (List ℕ)
-  pub out₁ : Bor (List ℕ)
+  pub out : MutBor (List ℕ)
+  pub out₁ : MutBor (List ℕ)
   pub post :
       chunk_reads.Post κs (before.index, (before.keys, (before.used, (text, (line, (out, (p, tt))))))) r
       (after.index, (after.keys, (after.used, (text, (line₁, (out₁, (p, tt)))))))
@@ -48,10 +49,10 @@ pub record LastCall (t : Tables) (held : List ℕ) (p : Progress) (u : Tables) (
   pub κs : Lfts 5
   pub before : Lent t
   pub after : Lent u
-  pub line : Bor (List ℕ)
+  pub line : MutBor (List ℕ)
   pub line_is : line.now ≡ held
-  pub out : Bor (List ℕ)
-  pub out₁ : Bor (List ℕ)
+  pub out : MutBor (List ℕ)
+  pub out₁ : MutBor (List ℕ)
   pub result : Progress
   pub post :
       last_reads.Post κs (before.index, (before.keys, (before.used, (line, (out, (p, tt)))))) result

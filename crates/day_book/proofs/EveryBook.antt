@@ -4,7 +4,8 @@ use mathlib.Core.Bool.{true}
 use mathlib.Core.List.{List, [], ◌∷◌, ◌++◌}
 use Prim.Native.Nat.{ℕ, suc}
 use contract.Lifetimes.{Lfts}
-use denote.Ref.{Bor}
+use denote.Bor.{Bor}
+use denote.MutBor.{MutBor}
 use lib.ListN.{length, take}
 use Rattle.table_find.specs.declared.answer.Answer.{Answer}
 use Rattle.table_format.specs.Format.{format_fits, FormatDoes}
@@ -54,8 +55,8 @@ pub record Answers (t : Tables) (line : List ℕ) (n : ℕ) (u : Tables) (bytes 
   pub after : Lent u
   pub text : Bor (List ℕ)
   pub text_is : text.now ≡ line
-  pub out : Bor (List ℕ)
-  pub out₁ : Bor (List ℕ)
+  pub out : MutBor (List ℕ)
+  pub out₁ : MutBor (List ℕ)
   pub size : ℕ
   pub post :
       answer_line_reads.Post κs (before.index, (before.keys, (before.used, (text, (n, (out, tt)))))) size

@@ -12,7 +12,7 @@ returns-then-a-ne0 c =
     record {
       shown = find_shown answer;
       does = record { answer = answer; does = c.find-a.ensures; shows = refl; kept = refl };
-      BARE(written) = shown_at (find_shown answer) (rw (ne_eqb answer.number 0 c.if-a-ne0.true) c.write_answer.ensures);
+      written = shown_at (find_shown answer) (rw (ne_eqb answer.number 0 c.if-a-ne0.true) c.write_answer.ensures);
     }
 
 pub write_answer-requires-2 : goal.write_answer-requires-2
@@ -24,5 +24,5 @@ returns c =
     record {
       shown = find_shown answer;
       does = record { answer = answer; does = c.find-a.ensures; shows = refl; kept = refl };
-      BARE(written) = shown_at (find_shown answer) (rw (eq-eqb answer.number 0 c.if-a-ne0.false) c.write_answer-2.ensures);
+      written = shown_at (find_shown answer) (rw (eq-eqb answer.number 0 c.if-a-ne0.false) c.write_answer-2.ensures);
     }

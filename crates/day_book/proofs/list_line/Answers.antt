@@ -12,5 +12,5 @@ returns c =
     record {
       shown = list_shown c.list-a.result _;
       does = record { answer = c.list-a.result; out = _; does = c.list-a.ensures; shows = refl; kept = refl };
-      BARE(written) = shown_at (list_shown c.list-a.result _) c.write_answer.ensures;
+      written = shown_at (list_shown c.list-a.result _) c.write_answer.ensures;
     }

@@ -9,5 +9,5 @@ returns c =
     record {
       shown = number_alone c.off-a.result.number;
       does = record { answer = c.off-a.result; does = c.off-a.ensures; shows = refl };
-      BARE(written) = shown_at (number_alone c.off-a.result.number) c.write_answer.ensures;
+      written = shown_at (number_alone c.off-a.result.number) c.write_answer.ensures;
     }

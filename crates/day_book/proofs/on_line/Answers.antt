@@ -9,5 +9,5 @@ returns c =
     record {
       shown = number_alone c.on-a.result.number;
       does = record { answer = c.on-a.result; does = c.on-a.ensures; shows = refl };
-      BARE(written) = shown_at (number_alone c.on-a.result.number) c.write_answer.ensures;
+      written = shown_at (number_alone c.on-a.result.number) c.write_answer.ensures;
     }
