@@ -1,7 +1,7 @@
 -- Merging on small rows: what no law of it tells, since merging less, or elsewhere, would be as sound. Assumes nothing.
 use mathlib.Core.Path.{◌≡◌, refl}
 use mathlib.Core.Option.{none, some}
-use mathlib.Core.List.{List, [], ◌∷◌, ◌++◌}
+use mathlib.Core.List.{[], ◌∷◌, ◌++◌}
 use Prim.Native.Nat.{ℕ}
 use Rattle.leaf_list.specs.Entries.{entry}
 use Rattle.page_tree.specs.Tree.{Node}

@@ -1,5 +1,4 @@
 -- The loop's invariant: the fields of the records before place i stand from `at` on. Assumes nothing.
-use Prim.Native.Nat.{◌-◌}
 use native.Mathlib.Omega.{arith}
 use Rattle.book_answers.proofs.Writing.{wrote_long}
 use Rattle.book_answers.proofs.Lines.{records_none, record_room, record_wrote, records_wrote}

@@ -1,5 +1,4 @@
 -- What is taken from the loop's place on is what the call is to take. Assumes nothing.
-use Prim.Native.Nat.{◌-◌}
 use Rattle.book_input.proofs.TakenBytes.{takes_nothing, takes_newline, takes_byte, keeps_pre}
 use Rattle.book_input.proofs.take_line.Goals as goal
 

@@ -1,6 +1,5 @@
 -- The loop's invariant: the first i bytes are read. Assumes nothing.
 use mathlib.Core.Path.{refl}
-use Prim.Native.Nat.{◌-◌}
 use native.Mathlib.Omega.{arith}
 use lib.ListN.{length-set}
 use Rattle.byte_moves.proofs.MovedBytes.{read_more, read_all}

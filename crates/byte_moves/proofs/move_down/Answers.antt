@@ -1,5 +1,4 @@
 -- The loop's invariant: the first i bytes are moved. Assumes nothing.
-use Prim.Native.Nat.{◌-◌}
 use native.Mathlib.Omega.{arith}
 use Rattle.byte_moves.proofs.MovedBytes.{lowered_none, lowered_more, lowered_all}
 use Rattle.byte_moves.proofs.move_down.Goals as goal

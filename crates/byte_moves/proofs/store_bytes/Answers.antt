@@ -1,5 +1,4 @@
 -- The loop's invariant: the first i bytes are written. Assumes nothing.
-use Prim.Native.Nat.{◌-◌}
 use native.Mathlib.Omega.{arith}
 use lib.ListN.{length-set}
 use Rattle.byte_moves.proofs.OverLaws.{over_none}

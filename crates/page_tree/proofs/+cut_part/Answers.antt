@@ -1,5 +1,4 @@
 -- `page_tree::cut_part` meets its contract; the part that is cut gets shorter. Assumes nothing.
-use Prim.Native.Nat.{◌-◌}
 use native.Mathlib.Omega.{arith}
 use borrow.Author.Rules.{rules}
 use Rattle.page_tree.proofs.RowCuts.{cut_one, cut_inside, cut_both}

@@ -1,6 +1,5 @@
 -- `page_tree::split_at` meets its contract: each turn tries one entry more. Assumes nothing.
 use mathlib.Core.Path.{refl}
-use Prim.Native.Nat.{◌-◌}
 use borrow.Author.Rules.{rules}
 use native.Mathlib.Omega.{arith}
 use Rattle.page_tree.proofs.QuickSearchLaws.{trying_begun, trying_better, trying_on, trying_met, trying_all}

@@ -8,21 +8,21 @@ use Rattle.table_format.proofs.EmptyTables.{over_whole}
 use Rattle.table_format.proofs.format.Goals as goal
 
 pub returns-then-not-format_fits : goal.returns-then-not-format_fits
-returns-then-not-format_fits c = format_refused _ (sym c.format_fits.ensures ∙ not-true _ c.if-not-format_fits.true-raw) c.plain.ensures
+returns-then-not-format_fits c = format_refused _ (sym c.format_fits.ensures ∙ c.if-not-format_fits.true) c.plain.ensures
 
 pub overflow_cast-w : goal.overflow_cast-w
-overflow_cast-w c = omega (arith, (fits_says _ _ _ _ _ _ (sym c.format_fits.ensures ∙ not-false _ c.if-not-format_fits.false-raw)).limits.width_high)
+overflow_cast-w c = omega (arith, (fits_says _ _ _ _ _ _ (sym c.format_fits.ensures ∙ c.if-not-format_fits.false)).limits.width_high)
 
 pub overflow_cast-e : goal.overflow_cast-e
-overflow_cast-e c = omega (arith, (fits_says _ _ _ _ _ _ (sym c.format_fits.ensures ∙ not-false _ c.if-not-format_fits.false-raw)).limits.entries_high)
+overflow_cast-e c = omega (arith, (fits_says _ _ _ _ _ _ (sym c.format_fits.ensures ∙ c.if-not-format_fits.false)).limits.entries_high)
 
 pub overflow_cast-p : goal.overflow_cast-p
-overflow_cast-p c = omega (arith, (fits_says _ _ _ _ _ _ (sym c.format_fits.ensures ∙ not-false _ c.if-not-format_fits.false-raw)).limits.pages_high)
+overflow_cast-p c = omega (arith, (fits_says _ _ _ _ _ _ (sym c.format_fits.ensures ∙ c.if-not-format_fits.false)).limits.pages_high)
 
 pub make_empty-requires : goal.make_empty-requires
-make_empty-requires c = format_empty _ _ _ (sym c.format_fits.ensures ∙ not-false _ c.if-not-format_fits.false-raw)
+make_empty-requires c = format_empty _ _ _ (sym c.format_fits.ensures ∙ c.if-not-format_fits.false)
 
 pub returns : goal.returns
 returns c =
-    format_done _ (sym c.format_fits.ensures ∙ not-false _ c.if-not-format_fits.false-raw) c.plain-2.ensures c.make_empty.ensures c.clear_keys.ensures
+    format_done _ (sym c.format_fits.ensures ∙ c.if-not-format_fits.false) c.plain-2.ensures c.make_empty.ensures c.clear_keys.ensures
     (c.clear.ensures ∙ over_whole _ _ (length-replicate _ 0))

@@ -12,11 +12,11 @@ sparse-requires c =
 
 pub returns-then-not-sparse : goal.returns-then-not-sparse
 returns-then-not-sparse c =
-    place_calm c.requires.0 c.child-below.ensures c.sparse.ensures (not-true _ c.if-not-sparse.true-raw)
+    place_calm c.requires.0 c.child-below.ensures c.sparse.ensures c.if-not-sparse.true
 
 pub join_left-requires : goal.join_left-requires
 join_left-requires c =
-    (place_sparse c.requires.0 c.child-below.ensures c.sparse.ensures (not-false _ c.if-not-sparse.false-raw), c.requires.1)
+    (place_sparse c.requires.0 c.child-below.ensures c.sparse.ensures c.if-not-sparse.false, c.requires.1)
 
 pub returns-then-join_left : goal.returns-then-join_left
 returns-then-join_left c =
@@ -24,7 +24,7 @@ returns-then-join_left c =
 
 pub join_right-requires : goal.join_right-requires
 join_right-requires c =
-    let sparse = place_sparse c.requires.0 c.child-below.ensures c.sparse.ensures (not-false _ c.if-not-sparse.false-raw) in
+    let sparse = place_sparse c.requires.0 c.child-below.ensures c.sparse.ensures c.if-not-sparse.false in
     (then_right sparse (c.join_left.ensures.none c.if-join_left.false), c.requires.1)
 
 pub returns : goal.returns

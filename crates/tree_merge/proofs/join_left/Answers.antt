@@ -9,12 +9,12 @@ returns-then-at-eq0 c = left_first c.requires.0 c.if-at-eq0.true
 
 pub returns-then-not-joinable : goal.returns-then-not-joinable
 returns-then-not-joinable c =
-    left_shut c.requires.0 c.if-at-eq0.false c.joinable.ensures (not-true _ c.if-not-joinable.true-raw)
+    left_shut c.requires.0 c.if-at-eq0.false c.joinable.ensures c.if-not-joinable.true
 
 pub join-requires : goal.join-requires
 join-requires c =
-    (pair_join (left_pair c.requires.0 c.if-at-eq0.false) c.joinable.ensures (not-false _ c.if-not-joinable.false-raw), c.requires.1)
+    (pair_join (left_pair c.requires.0 c.if-at-eq0.false) c.joinable.ensures c.if-not-joinable.false, c.requires.1)
 
 pub returns : goal.returns
 returns c =
-    left_done c.requires.0 c.if-at-eq0.false c.joinable.ensures (not-false _ c.if-not-joinable.false-raw) _ c.join.ensures
+    left_done c.requires.0 c.if-at-eq0.false c.joinable.ensures c.if-not-joinable.false _ c.join.ensures

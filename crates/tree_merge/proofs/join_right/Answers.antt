@@ -19,14 +19,14 @@ joinable-requires c =
 
 pub returns-then-not-joinable : goal.returns-then-not-joinable
 returns-then-not-joinable c =
-    right_shut c.requires.0 c.wide.ensures.0 c.count.ensures (omega (arith, c.if-wide-at.false)) c.joinable.ensures (not-true _ c.if-not-joinable.true-raw)
+    right_shut c.requires.0 c.wide.ensures.0 c.count.ensures (omega (arith, c.if-wide-at.false)) c.joinable.ensures c.if-not-joinable.true
 
 pub join-requires : goal.join-requires
 join-requires c =
     let pair = right_pair c.requires.0 c.wide.ensures.0 c.count.ensures (omega (arith, c.if-wide-at.false)) in
-    (pair_join pair c.joinable.ensures (not-false _ c.if-not-joinable.false-raw), c.requires.1)
+    (pair_join pair c.joinable.ensures c.if-not-joinable.false, c.requires.1)
 
 pub returns : goal.returns
 returns c =
-    right_done c.requires.0 c.wide.ensures.0 c.count.ensures (omega (arith, c.if-wide-at.false)) c.joinable.ensures (not-false _ c.if-not-joinable.false-raw) _
+    right_done c.requires.0 c.wide.ensures.0 c.count.ensures (omega (arith, c.if-wide-at.false)) c.joinable.ensures c.if-not-joinable.false _
     c.join.ensures

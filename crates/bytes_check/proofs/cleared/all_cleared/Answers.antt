@@ -16,10 +16,10 @@ pub page_cleared-requires : goal.page_cleared-requires
 page_cleared-requires c = rw c.wide16.ensures.0 (within_table (layout_of c.args.h.entries) _ _ c.args.index.now c.requires.0 c.loop-page-test.true, c.requires.2 _, c.requires.3 _)
 
 pub returns-then-not-page_cleared : goal.returns-then-not-page_cleared
-returns-then-not-page_cleared c = iff_no (λ f. said_no c.page_cleared.ensures (not-true _ c.if-not-page_cleared.true-raw) (rw c.wide16.ensures.0 (f _ c.loop-page-test.true)))
+returns-then-not-page_cleared c = iff_no (λ f. said_no c.page_cleared.ensures c.if-not-page_cleared.true (rw c.wide16.ensures.0 (f _ c.loop-page-test.true)))
 
 pub loop-page-preserved : goal.loop-page-preserved
-loop-page-preserved c = (omega arith, below_more _ _ c.loop-page.invariant.1 (rw c.wide16.ensures.0 at (c.page_cleared.ensures.0 (not-false _ c.if-not-page_cleared.false-raw))))
+loop-page-preserved c = (omega arith, below_more _ _ c.loop-page.invariant.1 (rw c.wide16.ensures.0 at (c.page_cleared.ensures.0 c.if-not-page_cleared.false)))
 
 pub returns : goal.returns
 returns c = iff_yes (λ q l. c.loop-page.invariant.1 q (omega arith))

@@ -1,5 +1,4 @@
 -- `page_tree::Row::append` meets its contract. Assumes nothing.
-use Prim.Native.Nat.{◌-◌}
 use borrow.Author.Rules.{rules}
 use native.Mathlib.Omega.{arith}
 use Rattle.page_tree.proofs.RowLaws.{appended_none, appended_more, appended_all}

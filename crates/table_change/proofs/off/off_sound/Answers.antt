@@ -30,14 +30,14 @@ is_key-requires c =
 pub returns-then-not-is_key : goal.returns-then-not-is_key
 returns-then-not-is_key c =
     let wide = wide_is _ c.width.ensures.0 c.too_wide.ensures c.if-too_wide.false in
-    off_refused 6 (λ e. omega (arith, e)) (row_six c.requires wide _ c.leaf_of-leaf.ensures c.is_key.ensures (not-true _ c.if-not-is_key.true-raw)) _ c.plain-then-not-is_key.ensures
+    off_refused 6 (λ e. omega (arith, e)) (row_six c.requires wide _ c.leaf_of-leaf.ensures c.is_key.ensures c.if-not-is_key.true) _ c.plain-then-not-is_key.ensures
 
 pub take_off-requires : goal.take_off-requires
 take_off-requires c =
     let wide = wide_is _ c.width.ensures.0 c.too_wide.ensures c.if-too_wide.false in
-    held_key c.requires wide _ c.leaf_of-leaf.ensures c.is_key.ensures (not-false _ c.if-not-is_key.false-raw)
+    held_key c.requires wide _ c.leaf_of-leaf.ensures c.is_key.ensures c.if-not-is_key.false
 
 pub returns : goal.returns
 returns c =
     let wide = wide_is _ c.width.ensures.0 c.too_wide.ensures c.if-too_wide.false in
-    off_accepted (row_none c.requires wide _ c.leaf_of-leaf.ensures c.is_key.ensures (not-false _ c.if-not-is_key.false-raw)) _ c.plain-2.ensures c.take_off.ensures
+    off_accepted (row_none c.requires wide _ c.leaf_of-leaf.ensures c.is_key.ensures c.if-not-is_key.false) _ c.plain-2.ensures c.take_off.ensures
