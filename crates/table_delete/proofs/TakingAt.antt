@@ -1,18 +1,16 @@
 -- Removal where one page of level 0 changes alone: the root and its level stay until pages are merged. Assumes nothing.
 use mathlib.Core.Path.{◌≡◌, refl, sym, ap, subst, ◌∙◌}
-use mathlib.Core.Bool.{Bool, true, false, cond}
-use mathlib.Core.Logic.{inl, inr}
+use mathlib.Core.Bool.{true, false}
 use mathlib.Core.List.{List}
-use Prim.Native.Nat.{ℕ, zero, suc, ◌+◌, ◌*◌, ◌≤◌, ◌<◌}
+use Prim.Native.Nat.{ℕ, zero, suc, ◌+◌, ◌≤◌, ◌<◌}
 use native.Mathlib.Omega.{arith}
 use native.Mathlib.Numerals.{add-one}
-use lib.Dec.{ltb}
 use lib.ListN.{length}
 use Rattle.leaf_list.specs.Keys.{bits}
 use Rattle.leaf_list.specs.Search.{positions}
 use Rattle.page_tree.specs.OffPages.{Left}
 use Rattle.page_tree.specs.Numbered.{Numbered}
-use Rattle.index_table.specs.Layout.{layout_of, Within, page_bytes, count_of}
+use Rattle.index_table.specs.Layout.{layout_of, Within, page_bytes}
 use Rattle.index_table.specs.Pages.{pages_at, numbered_at, root_ref}
 use Rattle.index_table.specs.declared.layout.PageNo.{PageNo}
 use Rattle.index_table.specs.declared.layout.Root.{Root}

@@ -1,5 +1,5 @@
 -- From a page to the one below it that covers the key, and back: what is merged there, and then the two pages beside it. Assumes nothing.
-use mathlib.Core.Path.{◌≡◌, refl, sym, ap, ap₂, ◌∙◌, subst}
+use mathlib.Core.Path.{◌≡◌, refl, sym, ap, ap₂, ◌∙◌}
 use mathlib.Core.Bool.{Bool, true, false, cond, true≢false}
 use mathlib.Core.List.{List, [], ◌∷◌}
 use Prim.Native.Nat.{ℕ, zero, suc, ◌-◌, ◌≤◌, ◌<◌}
@@ -12,8 +12,8 @@ use Rattle.page_tree.specs.Merging.{sparse, Offered, offer, accept, settle, merg
 use Rattle.page_tree.specs.Numbered.{Numbered, numbered_depth, join_numbered, merge_numbered}
 use Rattle.page_tree.proofs.WalkPlaces.{find_at}
 use Rattle.page_tree.proofs.MergingPlaces.{placed, merge_in_at}
-use Rattle.index_table.specs.Layout.{Layout, layout_of, Ref, Within, page_bytes, ref_at, refs_of}
-use Rattle.index_table.specs.Pages.{Pages, pages_at, numbered_at, met, in_use}
+use Rattle.index_table.specs.Layout.{Layout, layout_of, Ref, Within, page_bytes, ref_at}
+use Rattle.index_table.specs.Pages.{Pages, pages_at, numbered_at, met}
 use Rattle.index_write.specs.Standing.{Owned}
 use Rattle.table_search.specs.declared.Spot.{Spot}
 use Rattle.table_search.specs.Places.{left_from, SeekPre, Stopped}

@@ -1,5 +1,5 @@
 -- Pages joined below an entry, along the way of a key (02, request (i)). Assumes nothing.
-use Rattle.std.specs.Prelude.{◌≡◌, Bool, true, false, cond, ◌&&◌, List, [], ◌∷◌, ◌++◌, ℕ, zero, suc, ◌+◌, ◌*◌, ◌≤◌, ◌<◌, ltb, length, get_or, take, drop}
+use Rattle.std.specs.Prelude.{◌≡◌, Bool, true, false, cond, ◌&&◌, List, [], ◌∷◌, ◌++◌, ℕ, zero, suc, ◌+◌, ◌≤◌, ◌<◌, ltb, length, get_or, take, drop}
 use Rattle.page_tree.specs.Walk.{walk}
 use Rattle.page_tree.specs.Merging.{sparse, joinable}
 use Rattle.page_tree.specs.Numbered.{Numbered, numbered_depth, join_numbered, merge_numbered}

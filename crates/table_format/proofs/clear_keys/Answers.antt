@@ -1,6 +1,5 @@
 -- The keys passed are zero. Assumes nothing.
 use mathlib.Core.Path.{refl}
-use Prim.Native.Nat.{◌-◌}
 use native.Mathlib.Omega.{arith}
 use lib.ListN.{length-set}
 use Rattle.table_format.proofs.EmptyTables.{zeros_more, zeros_all}

@@ -1,7 +1,6 @@
 -- The first part is stored in the own page; then the loop stores part after part. Assumes nothing.
 use mathlib.Core.Path.{refl}
 use native.Mathlib.Omega.{arith}
-use Prim.Native.Nat.{◌-◌}
 use Rattle.table_insert.proofs.PlacedParts.{first_entry, first_storable, first_end, storing_start, next_pre, next_end, storing_more, storing_end}
 use borrow.Author.Rules.{rules}
 use Rattle.table_insert.proofs.place_parts.Goals as goal

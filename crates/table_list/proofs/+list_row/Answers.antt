@@ -1,6 +1,5 @@
 -- All below each entry, one entry a turn; a page of level 0 has only its entries. Assumes nothing.
 use mathlib.Core.Path.{sym, ◌∙◌}
-use Prim.Native.Nat.{◌-◌}
 use native.Mathlib.Omega.{arith}
 use Rattle.index_table.proofs.PageRows.{length_refs}
 use Rattle.table_list.proofs.RowWalks.{row_within, row_short, row_leaf, leaf_listed, row_below, child_visited, walking_start, walking_more, walking_over, walking_end}

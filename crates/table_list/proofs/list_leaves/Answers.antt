@@ -1,6 +1,5 @@
 -- Each turn visits one entry; a list that is over stops at once. Assumes nothing.
 use mathlib.Core.Path.{sym, ◌∙◌}
-use Prim.Native.Nat.{◌-◌}
 use native.Mathlib.Omega.{arith}
 use Rattle.index_table.proofs.PageRows.{length_refs}
 use Rattle.table_list.proofs.RowWalks.{row_within, row_short, leaf_visit, leaf_visited, walking_start, walking_more, walking_over, walking_end}

@@ -1,7 +1,6 @@
 -- Each turn takes the depth before the end of one part. Assumes nothing.
 use borrow.Author.Rules.{rules}
 use mathlib.Core.Path.{refl}
-use Prim.Native.Nat.{◌-◌}
 use native.Mathlib.Omega.{arith}
 use Rattle.table_plan.proofs.PartDepths.{end_inside, gathered_more, gathered_all}
 use Rattle.table_plan.proofs.last_depths.Goals as goal

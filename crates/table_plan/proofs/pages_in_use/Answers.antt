@@ -1,5 +1,4 @@
 -- Each turn counts one page where it is in use. Assumes nothing.
-use Prim.Native.Nat.{◌-◌}
 use native.Mathlib.Omega.{arith}
 use Rattle.index_table.proofs.PageBytes.{within_table}
 use Rattle.table_plan.proofs.CountedPages.{used_none, used_more, used_same, used_all}

@@ -1,6 +1,5 @@
 -- Two entries a turn; then one more, where it is not the last and is passed. Assumes nothing.
 use mathlib.Core.Path.{sym, ◌∙◌}
-use Prim.Native.Nat.{◌-◌}
 use native.Mathlib.Omega.{arith}
 use lib.Pow.{pow_mono}
 use Rattle.index_table.proofs.PageRows.{length_refs}

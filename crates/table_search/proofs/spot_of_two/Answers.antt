@@ -20,6 +20,6 @@ returns c =
     let of : Bool → Spot = λ (t : Bool). cond t (spot_at a.w a.bits a.trail a.disc a.at) (spot_at a.w a.bits a.trail (a.last + 1) (a.at + 1)) in
     c.spot_at.ensures
     ∙ elim c.if-last-bits.branch [
-        then-last-bits w ↦ rw (w.passed-is, w.i-is) (sym (ap of (lt-leb a.bits a.last w.if-last-bits.true)))
+      | then-last-bits w ↦ rw (w.passed-is, w.i-is) (sym (ap of (lt-leb a.bits a.last w.if-last-bits.true)))
       | else-last-bits w ↦ rw (w.passed-is, w.i-is) (sym (ap of (le-leb a.bits a.last w.if-last-bits.false)))
     ]

@@ -1,5 +1,4 @@
 -- A page that is not sparse stays; of a sparse one the left neighbour is tried, and where that is not joined, the right one. Assumes nothing.
-use borrow.Author.Tests.{not-true, not-false}
 use Rattle.tree_merge.proofs.NeighbourTests.{place_read, below_within, place_calm, place_sparse, then_right, then_post}
 use Rattle.tree_merge.proofs.join_beside.Goals as goal
 

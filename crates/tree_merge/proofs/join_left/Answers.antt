@@ -1,5 +1,4 @@
 -- The first entry has no left neighbour; any other is joined with it, where the two may be one. Assumes nothing.
-use borrow.Author.Tests.{not-true, not-false}
 use Rattle.tree_merge.proofs.PairLaws.{pair_join}
 use Rattle.tree_merge.proofs.NeighbourTests.{left_first, left_pair, left_shut, left_done}
 use Rattle.tree_merge.proofs.join_left.Goals as goal

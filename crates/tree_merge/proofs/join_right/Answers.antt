@@ -1,6 +1,5 @@
 -- The last entry has no right neighbour; any other is joined with it, where the two may be one. Assumes nothing.
 use native.Mathlib.Omega.{arith}
-use borrow.Author.Tests.{not-true, not-false}
 use Rattle.tree_merge.proofs.EntryReads.{page_within}
 use Rattle.tree_merge.proofs.PairLaws.{pair_join}
 use Rattle.tree_merge.proofs.NeighbourTests.{right_last, right_pair, right_shut, right_done}

@@ -1,6 +1,5 @@
 -- Every page passed is as its mark says. Assumes nothing.
-use Rattle.std.proofs.Common.{◌-◌, arith, below_more}
-use borrow.Author.Tests.{not-true, not-false}
+use Rattle.std.proofs.Common.{arith, below_more}
 use Rattle.index_table.specs.Layout.{layout_of}
 use Rattle.index_table.proofs.PageBytes.{within_table}
 use Rattle.bytes_check.proofs.Iff.{iff_no, iff_yes, said_no}

@@ -1,5 +1,4 @@
 -- The header, test by test. Assumes nothing.
-use borrow.Author.Tests.{not-true, not-false}
 use Rattle.bytes_check.proofs.Iff.{iff_no, iff_trans, said_no}
 use Rattle.bytes_check.proofs.Headers.{header_short, header_limits, header_length, header_spare}
 use Rattle.bytes_check.proofs.header.header_fits.Goals as goal

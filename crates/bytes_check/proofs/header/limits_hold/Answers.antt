@@ -1,7 +1,6 @@
 -- The limits, number by number. Assumes nothing.
 use Rattle.bytes_check.proofs.Headers.{limits_all}
 use Rattle.std.proofs.Common.{arith}
-use borrow.Author.Tests.{not-true, not-false}
 use Rattle.bytes_check.proofs.Iff.{iff_no, said_no}
 use Rattle.bytes_check.proofs.header.limits_hold.Goals as goal
 

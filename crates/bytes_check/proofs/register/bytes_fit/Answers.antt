@@ -1,5 +1,5 @@
 -- The bytes gathered so far are 0 or 1 exactly if each is. Assumes nothing.
-use Rattle.std.proofs.Common.{◌≡◌, ℕ, ◌-◌, ◌<◌, ◌↔◌, length, subst, arith, le-leb, leb-true}
+use Rattle.std.proofs.Common.{◌≡◌, ℕ, ◌<◌, ◌↔◌, length, subst, arith, le-leb, leb-true}
 use Rattle.bytes_check.specs.Scans.{SmallBytes}
 use Rattle.bytes_check.proofs.Gathered.{small_more}
 use Rattle.bytes_check.proofs.register.bytes_fit.Goals as goal

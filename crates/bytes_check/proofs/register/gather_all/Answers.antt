@@ -1,5 +1,5 @@
 -- The records before i are gathered. Assumes nothing.
-use Rattle.std.proofs.Common.{◌-◌, arith}
+use Rattle.std.proofs.Common.{arith}
 use Rattle.bytes_check.proofs.Gathered.{gathered_none}
 use Rattle.bytes_check.proofs.register.gather_all.Goals as goal
 

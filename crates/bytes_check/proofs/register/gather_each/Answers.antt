@@ -1,5 +1,5 @@
 -- The records before i are gathered. Assumes nothing.
-use Rattle.std.proofs.Common.{◌≡◌, ◌-◌, arith}
+use Rattle.std.proofs.Common.{◌≡◌, arith}
 use Rattle.bytes_check.proofs.register.gather_each.Goals as goal
 
 pub loop-i-init : goal.loop-i-init

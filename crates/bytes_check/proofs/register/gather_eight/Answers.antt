@@ -1,5 +1,4 @@
 -- Eight records in use by the bits of their keys, others one by one. Assumes nothing.
-use borrow.Author.Tests.{not-false}
 use Rattle.bytes_check.proofs.Gathered.{gathered_eight}
 use Rattle.bytes_check.proofs.register.gather_eight.Goals as goal
 

@@ -1,6 +1,5 @@
 -- What the pass gathered, judged. Assumes nothing.
 use Rattle.std.proofs.Common.{sym, ◌∙◌, rules, leb-false, leb-true}
-use borrow.Author.Tests.{not-true, not-false}
 use Rattle.bytes_check.proofs.Iff.{said_no}
 use Rattle.bytes_check.proofs.Gathered.{gathered_sound, sound_small, tallied_no, tallied_wide, tallied_yes}
 use Rattle.bytes_check.proofs.register.tally_records.Goals as goal

@@ -1,5 +1,5 @@
 -- The or of the bytes passed is zero exactly if each of them is. Assumes nothing.
-use Rattle.std.proofs.Common.{◌≡◌, ℕ, ◌-◌, ◌↔◌, refl, subst, arith, eq-eqb, eqb-true}
+use Rattle.std.proofs.Common.{◌≡◌, ℕ, ◌↔◌, refl, subst, arith, eq-eqb, eqb-true}
 use Rattle.bytes_check.specs.Scans.{ZeroBetween}
 use Rattle.bytes_check.proofs.Gathered.{zero_more}
 use Rattle.bytes_check.proofs.zeros.all_zero.Goals as goal

@@ -1,7 +1,6 @@
 -- The loop's invariant: i zeros stand from `at` on. Assumes nothing.
 use lib.ListN.{length-set}
 use Rattle.index_write.proofs.Writing.{zeros_more, zeros_end}
-use Prim.Native.Nat.{◌-◌}
 use native.Mathlib.Omega.{arith}
 use Rattle.byte_moves.proofs.OverLaws.{over_none}
 use Rattle.index_write.proofs.write.clear.Goals as goal

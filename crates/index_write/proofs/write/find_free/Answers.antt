@@ -1,6 +1,5 @@
 -- The loop's invariant: all pages before page i are in use. Assumes nothing.
 use mathlib.Core.Path.{sym, ◌∙◌}
-use Prim.Native.Nat.{◌-◌}
 use native.Mathlib.Omega.{arith}
 use Rattle.index_table.proofs.PageBytes.{within_table}
 use Rattle.index_table.proofs.PageRows.{length_refs}

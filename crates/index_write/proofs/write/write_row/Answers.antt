@@ -1,6 +1,5 @@
 -- The loop's invariant: the entries before place i stand from `at` on. Assumes nothing.
 use Rattle.index_write.proofs.RowWriting.{written_none, next_room, pointer_fits_lem, written_more, written_all}
-use Prim.Native.Nat.{◌-◌}
 use native.Mathlib.Omega.{arith}
 use lib.ListN.{length-set}
 use borrow.Author.Rules.{rules}

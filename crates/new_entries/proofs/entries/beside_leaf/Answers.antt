@@ -29,7 +29,7 @@ returns c =
     elim c.if-b-l.branch [
       | then-b-l w ↦ new_named pre b.0 l.0 inside w.low-is w.first-is w.second-is counted (λ m. new_above pre b.0 l.0 inside w.if-b-l.true m)
       | else-b-l w ↦ elim c.if-key-old.branch [
-          | then-key-old v ↦ new_named pre b.0 l.0 inside w.low-is (w.first-is ∙ v.first-is) (w.second-is ∙ v.second-is) counted (λ m. new_below pre b.0 l.0 inside w.if-b-l.false below m _ _ pre.free_record pre.live (order_smaller pre b.0 l.0 inside v.if-key-old.true))
-          | else-key-old v ↦ new_named pre b.0 l.0 inside w.low-is (w.first-is ∙ v.first-is) (w.second-is ∙ v.second-is) counted (λ m. new_below pre b.0 l.0 inside w.if-b-l.false below m _ _ pre.live pre.free_record (order_larger pre b.0 l.0 inside v.if-key-old.false))
-        ]
+        | then-key-old v ↦ new_named pre b.0 l.0 inside w.low-is (w.first-is ∙ v.first-is) (w.second-is ∙ v.second-is) counted (λ m. new_below pre b.0 l.0 inside w.if-b-l.false below m _ _ pre.free_record pre.live (order_smaller pre b.0 l.0 inside v.if-key-old.true))
+        | else-key-old v ↦ new_named pre b.0 l.0 inside w.low-is (w.first-is ∙ v.first-is) (w.second-is ∙ v.second-is) counted (λ m. new_below pre b.0 l.0 inside w.if-b-l.false below m _ _ pre.live pre.free_record (order_larger pre b.0 l.0 inside v.if-key-old.false))
+      ]
     ]

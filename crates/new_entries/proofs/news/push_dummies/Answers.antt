@@ -1,7 +1,6 @@
 -- The dummies between two depths. Assumes nothing.
 use borrow.Author.Rules.{rules}
 use native.Mathlib.Omega.{arith}
-use Prim.Native.Nat.{◌-◌}
 use Rattle.new_entries.proofs.Dummies.{dummying_none, dummying_more, dummying_all, dummying_few}
 use Rattle.new_entries.proofs.news.push_dummies.Goals as goal
 

@@ -1,6 +1,5 @@
 -- The dummies between two depths, written. Assumes nothing.
 use native.Mathlib.Omega.{arith}
-use Prim.Native.Nat.{◌-◌}
 use Rattle.new_entries.proofs.Dummies.{marking_none, marking_room, marking_more, marking_all}
 use Rattle.new_entries.proofs.news.write_dummies.Goals as goal
 
