@@ -66,8 +66,7 @@ pub fn tag_index_check(index: &[u8], keys: &[u64], used: &[u8]) -> bool
     crate::read::check(index, keys, used)
 }
 
-// Works through a load. The borrow checker covers no function that is lent a slice of structs, so only this one is lent it, and tools/load-walk writes its
-// proof.
+// Works through a load.
 pub fn tag_index_load(
     index: &mut [u8],
     keys: &mut [u64],

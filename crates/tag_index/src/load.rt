@@ -37,8 +37,7 @@ pub fn move_one(
     answers[i] = done.number;
 }
 
-// Tells row 1 or 12, the first that applies to a load of so many movements; 0 if neither does. Changes nothing: it is lent the slices as `tag_index_load` holds
-// them, since the proof of that function lends them in no other way.
+// Tells row 1 or 12, the first that applies to a load of so many movements; 0 if neither does. Changes nothing.
 pub fn load_row(
     index: &mut [u8],
     keys: &mut [u64],

@@ -1,1 +1,0 @@
-# Writes the proof of `tag_index_load`; the command is tools/load-walk.
