@@ -92,9 +92,9 @@ pub record Follows (z : Sizes) (m : OrderedMap) (n : ℕ) (lines : List (List �
 pub follows : {z : Sizes} {m : OrderedMap} {t v : Tables} {n : ℕ} {lines : List (List ℕ)} {feeds : List Feed} {out : List ℕ} → Holds z m t → Told t n lines feeds out v
     → Follows z m n lines feeds out v
 follows h told.end = record { output = refl; holds = h }
-follows {n = n} h (told.next {line = line} s said further) =
+follows {z = z} {m = m} {t = t} {n = n} h (told.next {line = line} s said further) =
     let step = said_step h (meaning line) said in
-    let rest = follows step.holds further in
+    let rest = follows {m = map_said z (feed_of_said t (meaning line)) m (meaning line)} step.holds further in
     record { output = ap₂ (λ (a b : List ℕ). a ++ b) (ap (shown_line n) step.shown) rest.output; holds = rest.holds }
 
 -- ---- a whole book

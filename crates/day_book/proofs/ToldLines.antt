@@ -1,7 +1,7 @@
 -- Lines told to the library, one after the other. Assumes nothing.
 use mathlib.Core.Path.{◌≡◌, sym, subst}
 use mathlib.Core.List.{List, [], ◌∷◌, ◌++◌, map, append_assoc, append-nil}
-use Prim.Native.Nat.{ℕ, ◌+◌}
+use Prim.Native.Nat.{ℕ, suc, ◌+◌}
 use native.Mathlib.Omega.{arith}
 use lib.ListN.{length, take}
 use Rattle.tag_index.specs.Tables.{Tables}
@@ -29,6 +29,12 @@ told_both {t} {v = v} {n = n} {more = more} {others = others} {later = later} (n
 -- Lines cut to 81 bytes are answered as the whole lines.
 pub told_cut : {t v : Tables} {n : ℕ} {feeds : List Feed} {out : List ℕ} (lines : List (List ℕ)) → Told t n (map (take 81) lines) feeds out v → Told t n lines feeds out v
 told_cut [] end = end
-told_cut {t} {v} {n} (line ∷ lines) (next {u = u} {out = out} {feeds = feeds} s h a) =
-    subst (λ (x : Said). Told t n (line ∷ lines) (feed_of_said t x ∷ feeds) (shown_line n s ++ out) v) (sym (says_cut line))
-    (next {line = line} s (subst (λ (x : Said). SaidShown x t u s) (says_cut line) h) (told_cut lines a))
+told_cut {t} {v} {n} {feeds} {out} (line ∷ lines) told = go line lines feeds out (λ u fs ys a. told_cut lines a) told
+  where
+    go : (line : List ℕ) (lines : List (List ℕ)) (feeds : List Feed) (out : List ℕ)
+        → ((u : Tables) (fs : List Feed) (ys : List ℕ) → Told u (suc n) (map (take 81) lines) fs ys v → Told u (suc n) lines fs ys v)
+        → Told t n (take 81 line ∷ map (take 81) lines) feeds out v
+        → Told t n (line ∷ lines) feeds out v
+    go line lines feeds' out' rest (next {u = u} {out = out} {feeds = feeds} s h a) =
+        subst (λ (x : Said). Told t n (line ∷ lines) (feed_of_said t x ∷ feeds) (shown_line n s ++ out) v) (sym (says_cut line))
+        (next {line = line} s (subst (λ (x : Said). SaidShown x t u s) (says_cut line) h) (rest u feeds out a))
