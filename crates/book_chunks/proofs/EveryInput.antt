@@ -49,7 +49,7 @@ pub record LastCall (t : Tables) (held : List ℕ) (p : Progress) (u : Tables) (
   pub κs : Lfts 5
   pub before : Lent t
   pub after : Lent u
-  pub line : MutBor (List ℕ)
+  pub line : Bor (List ℕ)
   pub line_is : line.now ≡ held
   pub out : MutBor (List ℕ)
   pub out₁ : MutBor (List ℕ)
