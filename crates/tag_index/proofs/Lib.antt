@@ -1,6 +1,7 @@
 pub mod Changes
 pub mod Histories
 pub mod Judging
+pub mod Lending
 pub mod LoadLaws
 pub mod LoadSteps
 pub mod Runs
