@@ -3,6 +3,7 @@ pub mod Histories
 pub mod Judging
 pub mod Lending
 pub mod LoadLaws
+pub mod LoadReads
 pub mod LoadSteps
 pub mod Runs
 pub mod ReachedPages

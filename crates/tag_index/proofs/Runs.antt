@@ -22,7 +22,7 @@ use Rattle.tag_index.proofs.c.tag_index_off.Reads as off_reads
 use Rattle.tag_index.proofs.c.tag_index_find.Reads as find_reads
 use Rattle.tag_index.proofs.c.tag_index_list.Reads as list_reads
 use Rattle.tag_index.proofs.c.tag_index_check.Reads as check_reads
-use Rattle.tag_index.proofs.c.tag_index_load.Reads as load_reads
+use Rattle.tag_index.proofs.LoadReads as load_reads
 
 -- Three slices that are lent to be changed, and hold the tables.
 pub record Lent (t : Tables) : Type 0 where
