@@ -65,7 +65,7 @@ module _ {A : Type 0} (depth : A → ℕ) (E : ℕ) where
       (q (all_right P (split depth row).1 (split depth row).2 b)))
 
   -- A row that is left whole fits, where the fuel is enough.
-  whole_fits : (fuel : ℕ) (row : List A) → (fuel ≡ 0) ⊎ (length row ≤ E) → length row ≤ fuel + E → length row ≤ E
+  pub whole_fits : (fuel : ℕ) (row : List A) → (fuel ≡ 0) ⊎ (length row ≤ E) → length row ≤ fuel + E → length row ≤ E
   whole_fits fuel row (inl e) g = omega arith
   whole_fits fuel row (inr e) g = e
 

@@ -13,6 +13,7 @@ pub mod UnrepeatedRows
 pub mod FindingLaws
 pub mod Replacing
 pub mod Growing
+pub mod FuelLaws
 pub mod InsertionLeaves
 pub mod InsertionSound
 pub mod RowLengths
