@@ -140,7 +140,7 @@ set_bit_value (true ∷ D) (suc d) j h =
     let e : length D ≡ d + suc j = omega arith in
     rw (set_bit_length (suc d) D, set_bit_value D d j e, e, pow-add 2 d (suc j), mul-add-div_right (pow_pos (suc j)) (2 ^ d) (value D), add-mul) (omega arith)
 
--- setBitAt does on numbers what setBit does on keys.
+-- set_bit_at does on numbers what set_bit does on keys.
 pub set_bit_number : (n d : ℕ) (D : Key) → length D ≡ n → suc d ≤ n → value (set_bit (suc d) D) ≡ set_bit_at n (suc d) (value D)
 set_bit_number n d D e h = set_bit_value D d (n - suc d) (omega arith)
 

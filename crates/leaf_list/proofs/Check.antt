@@ -127,7 +127,7 @@ pub herd_of_narrow : (w : ℕ) (keys used : List ℕ) → ((r : ℕ) → in_use 
 herd_of_narrow w keys used narrow = narrow_in_use w (key_at keys) (in_use used) narrow (herd_of keys used) (herd_of_is keys used).keys_of (herd_of_is keys used).uses
 
 -- The entries pass, each after the one before and page after page, exactly if they are the leaf list of the register ("On level 0,
--- read left to right, stands the leaf list of the register") and "No two records in use have one key" (herdOf-sorted).
+-- read left to right, stands the leaf list of the register") and "No two records in use have one key" (herd_of_sorted).
 pub check_law : (w : ℕ) (keys used : List ℕ) → ((r : ℕ) → in_use used r ≡ true → key_at keys r < 2 ^ w) → (es : List Entry)
     → (passes (run w (key_at keys) (in_use used) start es) (count_in_use used) ≡ true) ↔ ((es ≡ leaf_list w (herd_of keys used)) × Sorted (herd_of keys used))
 check_law w keys used narrow es = (to, fro)

@@ -103,6 +103,6 @@ module _ (w : ℕ) (key_of : ℕ → ℕ) (used : ℕ → Bool) (D τ : ℕ) (du
   pub shift_wraps : d ≢ 0 → D < 2 ^ w → w ≤ 64 → (D / 2 ^ (w - d) + 1) * 2 ^ (w - d) % 2 ^ 64 < 2 ^ w
   shift_wraps z q l = subst (λ (x : ℕ). x < 2 ^ w) (sym (mod-eq_of_lt (omega (arith, shift_bound z q, pow_mono l)))) (shift_bound z q)
 
-  -- and it is setBitAt.
+  -- and it is set_bit_at.
   pub shift_set_bit_at : d ≢ 0 → D < 2 ^ w → w ≤ 64 → (D / 2 ^ (w - d) + 1) * 2 ^ (w - d) % 2 ^ 64 ≡ set_bit_at w d D
   shift_set_bit_at z q l = mod-eq_of_lt (omega (arith, shift_bound z q, pow_mono l)) ∙ sym (set_bit_at_shift w d D (fits_clear z))

@@ -121,7 +121,7 @@ holds_from key_of i (suc j) (u ∷ us) e = go (eqb u 1) (subst (λ (x : ℕ). Ho
     go true h = holds_kept (key_of i) i (key_of (i + suc j)) (i + suc j) (herd_from key_of (suc i) us) h
     go false h = h
 
--- herdOf makes the herd of the records in use.
+-- herd_of makes the herd of the records in use.
 pub herd_of_is : (keys used : List ℕ) → IsHerdOf (key_at keys) (in_use used) (herd_of keys used)
 herd_of_is keys used =
     record {

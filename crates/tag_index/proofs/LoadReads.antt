@@ -1,6 +1,5 @@
--- What the contract of `tag_index_load` says, as a type: as it is generated (`Reads`) for a function that the borrow checker covers, for one that it does
--- not.
---     ensures-read     a reading of the contract's own `ensures`, by the rule for a clause that is one fact. It is not told which fact that is
+-- What the contract of `tag_index_load` says, as a type, as it is generated (`Reads`) for the other calls: read off the function's own clause.
+--     ensures_read     a reading of the contract's own `ensures`, by the rule for a clause that is one fact. It is not told which fact that is
 --     Post             what whoever has the contract learns from it
 -- So whoever cites `Post` cites the clause as the source states it: where the clause changes, so does `Post`. Assumes nothing.
 use mathlib.Core.Path.{refl}

@@ -44,7 +44,7 @@ abbrev pub sizes_of : Tables → Sizes
 sizes_of t = record { table = length t.index; keys = length t.keys; used = length t.used }
 
 -- "and, of an on that rows 2 to 5 let pass, whether row 8 and whether row 7 applies to the tables it gets. It sees no answer and no page."
--- (Rows 2 to 5 come first in onRow: of an on that they decline, nothing here is looked at.)
+-- (Rows 2 to 5 come first in on_row: of an on that they decline, nothing here is looked at.)
 pub record Late : Type 0 where
   pub eight : Bool
   pub seven : Bool
