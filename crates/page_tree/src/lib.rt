@@ -14,6 +14,13 @@ pub enum Unwind {
     Clear(u8),
 }
 
+// An entry: its depth and its pointer.
+#[derive(Clone, Copy, Debug, PartialEq, Eq)]
+pub struct Entry {
+    pub depth: u8,
+    pub pointer: u32,
+}
+
 // A row of entries: entry i, below count, has the depth depths[i] and the pointer pointers[i].
 #[derive(Clone, Copy)]
 pub struct Row {
