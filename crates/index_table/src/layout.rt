@@ -18,13 +18,6 @@ pub struct Root {
     pub level: u8,
 }
 
-// What an entry on level 0 points at.
-#[derive(Clone, Copy)]
-pub enum Answer {
-    Live(RecordNo),
-    Dummy,
-}
-
 pub fn wide(x: u8) -> usize
     ensures { (result ≡ x) × (result ≤ 255) }
 {
@@ -106,18 +99,15 @@ pub fn child(index: &[u8], e: u8, page: PageNo, i: usize) -> PageNo
     PageNo(pointer(index, e, page, i) as u16)
 }
 
-// What a pointer on level 0 means.
-pub fn answer_of(pointer: u32) -> Answer
+// The record that a pointer on level 0 means; none for a dummy.
+pub fn answer_of(pointer: u32) -> Option<RecordNo>
     ensures { result ≡ answer_of pointer }
 {
-    if pointer == 65535 {
-        return Answer::Dummy;
-    }
-    Answer::Live(RecordNo(pointer))
+    (pointer != 65535).then_some(RecordNo(pointer))
 }
 
-// The record that entry i of a page of level 0 points at.
-pub fn record(index: &[u8], e: u8, page: PageNo, i: usize) -> Answer
+// The record that entry i of a page of level 0 points at; none for a dummy.
+pub fn record(index: &[u8], e: u8, page: PageNo, i: usize) -> Option<RecordNo>
     requires { Within (layout_of e) index.now page.0 × (i < e) }
     ensures { result ≡ answer_of (ref_at (layout_of e) (page_bytes (layout_of e) index.now page.0) i).1 }
 {
