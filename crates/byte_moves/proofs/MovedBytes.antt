@@ -3,10 +3,10 @@ use mathlib.Core.Path.{◌≡◌, refl, sym, ap, ap₂, ◌∙◌}
 use mathlib.Core.List.{List, [], ◌∷◌, ◌++◌}
 use Prim.Native.Nat.{ℕ, zero, suc, ◌+◌, ◌-◌, ◌≤◌, ◌<◌}
 use native.Mathlib.Omega.{arith}
-use lib.ListN.{length, get_or, take, drop, set, length-set, length-drop, take-append-drop, drop_of_length-le}
-use lib.Seq.{sets, set_comm, set-set, set-get_or, drop-cons, take-take, drop-drop, take-add, take-suc, take-suc-set, take_all, get_or-drop, length-take-le}
+use lib.ListN.{length, take, drop, set, length-set, length-drop, take-append-drop, drop_of_length-le}
+use lib.Seq.{sets, set_comm, set-set, set-get_or, drop-cons, take-take, drop-drop, take-add, take_all, length-take-le}
 use Rattle.byte_moves.specs.Over.{over}
-use Rattle.byte_moves.proofs.OverLaws.{length_over, over_none, over_one, over_append, take_drop, part_behind, part_before}
+use Rattle.byte_moves.proofs.OverLaws.{length_over, over_none, over_append, take_drop, part_behind, part_before}
 
 -- ---- a list written into what was written
 
@@ -99,30 +99,6 @@ module _ {A : Type 0} where
       ∙ ap₂ (λ (b : List A) (p : ℕ). over b p (drop k vs)) (ap (over (over l s (take k vs)) (s + i)) same ∙ over_again l s i (k - i) (take k vs) d (omega (arith, m))) (let p : s + i + length c ≡ s + length (take k vs) = omega (arith, n, m) in p)
       ∙ over_append l s (take k vs) (drop k vs) ∙ ap (over l s) (take-append-drop k vs)
 
-  -- One element more is written.
-  pub over_more : (l₀ l : List A) (s i : ℕ) (vs : List A) (d : A) → i < length vs → l ≡ over l₀ s (take i vs) → set l (s + i) (get_or vs i d) ≡ over l₀ s (take (i + 1) vs)
-  over_more l₀ l s i vs d h e =
-      let m : length (take i vs) ≡ i = length-take-le i vs (omega arith) in
-      over_one l (s + i) (get_or vs i d)
-      ∙ ap₂ (λ (b : List A) (n : ℕ). over b (s + n) (get_or vs i d ∷ [])) e (sym m)
-      ∙ over_append l₀ s (take i vs) (get_or vs i d ∷ [])
-      ∙ ap (over l₀ s) (sym (take-suc vs i d h) ∙ ap (λ (n : ℕ). take n vs) (let k : suc i ≡ i + 1 = omega arith in k))
-
--- One element more is read.
-pub read_more : (bytes b : List ℕ) (from i : ℕ) → i < length bytes → from + i < length b → take i bytes ≡ take i (drop from b) → take (i + 1) (set bytes i (get_or b (from + i) 0)) ≡ take (i + 1) (drop from b)
-read_more bytes b from i h g e =
-    let k : i + 1 ≡ suc i = omega arith in
-    ap (λ (n : ℕ). take n (set bytes i (get_or b (from + i) 0))) k ∙ take-suc-set bytes i (get_or b (from + i) 0) h
-    ∙ ap₂ (λ (l : List ℕ) (x : ℕ). l ++ x ∷ []) e (sym (get_or-drop from b i 0))
-    ∙ sym (ap (λ (n : ℕ). take n (drop from b)) k ∙ take-suc (drop from b) i 0 (omega (arith, length-drop from b)))
-
--- All are read, and all are written.
-pub read_all : (bytes b : List ℕ) (from i n : ℕ) → take i bytes ≡ take i (drop from b) → i ≤ n → n ≤ i → take n bytes ≡ take n (drop from b)
-read_all bytes b from i n h x y = let e : n ≡ i = omega arith in rw e h
-
-pub over_all : (b₀ b : List ℕ) (to i n : ℕ) (bytes : List ℕ) → b ≡ over b₀ to (take i bytes) → i ≤ n → n ≤ i → b ≡ over b₀ to (take n bytes)
-over_all b₀ b to i n bytes h x y = let e : n ≡ i = omega arith in rw e h
-
 -- ---- n bytes from one place on, moved to another
 
 -- Bytes moved up: those from place i on stand in their new places.
@@ -152,10 +128,6 @@ module _ (b₀ : List ℕ) (to from n : ℕ) (room : from + n ≤ length b₀) w
   last_bytes : (k : ℕ) → k ≤ n → take k (drop (from + (n - k)) b₀) ≡ drop (n - k) moving
   last_bytes k h =
       sym (part_part b₀ from n (n - k) k (omega arith)) ∙ take_all k (drop (n - k) moving) (omega (arith, length-drop (n - k) moving, moving_long))
-
-  -- All are read, and then written.
-  pub part_moved : {b₁ x : List ℕ} → x ≡ moving → b₁ ≡ over b₀ to x → b₁ ≡ over b₀ to moving
-  part_moved ex e = e ∙ ap (over b₀ to) ex
 
   -- The first k are moved, and then the last k, which reach back to them.
   pub ends_moved : (k : ℕ) → k ≤ n → n ≤ k + k → {b₁ b₂ x y : List ℕ} → x ≡ take k (drop from b₀) → y ≡ take k (drop (from + (n - k)) b₀) → b₁ ≡ over b₀ to x → b₂ ≡ over b₁ (to + (n - k)) y → b₂ ≡ over b₀ to moving

@@ -3,8 +3,9 @@ use mathlib.Core.Path.{◌≡◌, refl, sym, ap, ◌∙◌}
 use mathlib.Core.List.{List, [], ◌∷◌, ◌++◌, append_assoc}
 use Prim.Native.Nat.{ℕ, zero, suc, ◌+◌, ◌≤◌, ◌<◌}
 use native.Mathlib.Omega.{arith}
-use lib.ListN.{length, get_or, take, drop, set, length-take}
-use lib.Seq.{sets, length-sets, sets-eq, take-set-le, drop-set-lt, take_at, drop_at, take-nil, get_or-take, get_or-drop}
+use lib.ListN.{length, get_or, take, drop, set, length-take, length-drop}
+use lib.Seq.{sets, length-sets, sets-eq, take-set-le, drop-set-lt, take_at, drop_at, take-nil, get_or-take, get_or-drop, drop-drop, length-take-le}
+use borrow.Rule.Slice.PartMut.{put_mid}
 use Rattle.byte_moves.specs.Over.{over}
 
 module _ {A : Type 0} where
@@ -22,6 +23,14 @@ module _ {A : Type 0} where
   pub over_one : (l : List A) (i : ℕ) (a : A) → set l i a ≡ over l i (a ∷ [])
   unfolding over
   over_one l i a = refl
+
+  -- A part of k elements holds others.
+  pub over_part : (l : List A) (i k : ℕ) {vs ws : List A} → i + k ≤ length l → length vs ≡ length (take k (drop i l)) → vs ≡ ws → put_mid i k l vs ≡ over l i ws
+  unfolding over
+  over_part l i k {vs} {ws} h long e =
+      let part : length vs ≡ k = long ∙ length-take-le k (drop i l) (omega (arith, length-drop i l)) in
+      ap (λ (m : List A). take i l ++ (vs ++ m)) (drop-drop k i l ∙ ap (λ (n : ℕ). drop (i + n) l) (sym part))
+      ∙ sym (append_assoc (take i l) vs (drop (i + length vs) l)) ∙ sym (sets-eq vs l i (omega arith)) ∙ ap (sets l i) e
 
   -- One list is written behind another.
   pub over_append : (l : List A) (i : ℕ) (vs ws : List A) → over (over l i vs) (i + length vs) ws ≡ over l i (vs ++ ws)

@@ -1,54 +1,48 @@
 // Bytes moved within the index table, up to 32 at once: all of them are read before one is written, so that places may overlap.
+// Tried, and slower: `copy_within`, compiled from a loop over single bytes. It takes 1.5 to 3 times the instructions for up to 180 bytes, and up to
+// twice the time for up to 60.
 #![tactic(auto)]
 
 ghost use Rattle.std.specs.Prelude.{◌≡◌, ◌+◌, ◌≤◌, length, take, drop};
 ghost use Rattle.byte_moves.specs.Over.{over};
 
-// n bytes from one place on, as the first of an array.
-fn load_bytes(index: &[u8], from: usize, n: usize) -> [u8; 32]
-    requires { (from + n ≤ length index.now) × (n ≤ 32) }
-    ensures { take n result ≡ take n (drop from index.now) }
+// The N bytes from one place on.
+fn load<const N: usize>(index: &[u8], from: usize) -> [u8; N]
+    requires { from + N ≤ length index.now }
+    ensures { result ≡ take N (drop from index.now) }
 {
-    let mut bytes = [0u8; 32];
-    let mut i = 0;
-    while i < n {
-        bytes[i] = index[from + i];
-        i += 1;
-    }
+    let mut bytes = [0; N];
+    bytes.copy_from_slice(&index[from..from + N]);
     bytes
 }
 
-// The first n bytes of an array, from one place on.
-fn store_bytes(index: &mut [u8], to: usize, n: usize, bytes: [u8; 32])
-    requires { (to + n ≤ length index.old) × (n ≤ 32) }
-    ensures { index.new ≡ over index.old to (take n bytes) }
+// N bytes written from one place on.
+fn store<const N: usize>(index: &mut [u8], to: usize, bytes: [u8; N])
+    requires { to + N ≤ length index.old }
+    ensures { index.new ≡ over index.old to bytes.entry }
 {
-    let mut i = 0;
-    while i < n {
-        index[to + i] = bytes[i];
-        i += 1;
-    }
+    index[to..to + N].copy_from_slice(&bytes);
 }
 
-// n bytes from one place to another.
-fn move_part(index: &mut [u8], to: usize, from: usize, n: usize)
-    requires { (from + n ≤ length index.old) × (to + n ≤ length index.old) × (n ≤ 32) }
-    ensures { index.new ≡ over index.old to (take n (drop from index.old)) }
+// N bytes from one place to another.
+fn move_part<const N: usize>(index: &mut [u8], to: usize, from: usize)
+    requires { (from + N ≤ length index.old) × (to + N ≤ length index.old) }
+    ensures { index.new ≡ over index.old to (take N (drop from index.old)) }
 {
-    let bytes = load_bytes(index, from, n);
-    store_bytes(index, to, n, bytes);
+    let bytes = load::<N>(index, from);
+    store(index, to, bytes);
 }
 
-// n bytes from one place to another: the first k and the last k, which may share some.
-fn move_ends(index: &mut [u8], to: usize, from: usize, n: usize, k: usize)
-    requires { (from + n ≤ length index.old) × (to + n ≤ length index.old) × (k ≤ n) × (n ≤ k + k) × (k ≤ 32) }
+// n bytes from one place to another: the first N and the last N, which may share some.
+fn move_ends<const N: usize>(index: &mut [u8], to: usize, from: usize, n: usize)
+    requires { (from + n ≤ length index.old) × (to + n ≤ length index.old) × (N ≤ n) × (n ≤ N + N) }
     ensures { index.new ≡ over index.old to (take n (drop from index.old)) }
 {
-    let last = n - k;
-    let first_bytes = load_bytes(index, from, k);
-    let last_bytes = load_bytes(index, from + last, k);
-    store_bytes(index, to, k, first_bytes);
-    store_bytes(index, to + last, k, last_bytes);
+    let last = n - N;
+    let first_bytes = load::<N>(index, from);
+    let last_bytes = load::<N>(index, from + last);
+    store(index, to, first_bytes);
+    store(index, to + last, last_bytes);
 }
 
 // At most 32 bytes from one place to another.
@@ -57,15 +51,15 @@ fn move_few(index: &mut [u8], to: usize, from: usize, n: usize)
     ensures { index.new ≡ over index.old to (take n (drop from index.old)) }
 {
     if n >= 16 {
-        move_ends(index, to, from, n, 16);
+        move_ends::<16>(index, to, from, n);
     } else if n >= 8 {
-        move_ends(index, to, from, n, 8);
+        move_ends::<8>(index, to, from, n);
     } else if n >= 4 {
-        move_ends(index, to, from, n, 4);
+        move_ends::<4>(index, to, from, n);
     } else if n >= 2 {
-        move_ends(index, to, from, n, 2);
-    } else {
-        move_part(index, to, from, n);
+        move_ends::<2>(index, to, from, n);
+    } else if n == 1 {
+        move_part::<1>(index, to, from);
     }
 }
 
@@ -79,13 +73,12 @@ pub fn move_up(index: &mut [u8], from: usize, n: usize, by: usize)
         move_few(index, to, from, n);
         return;
     }
-    let first_bytes = load_bytes(index, from, 32);
-    let mut i = n;
-    while i > 32 {
-        i -= 32;
-        move_part(index, to + i, from + i, 32);
+    let first_bytes = load::<32>(index, from);
+    for part in 0..(n - 1) / 32 {
+        let i = n - 32 * (part + 1);
+        move_part::<32>(index, to + i, from + i);
     }
-    store_bytes(index, to, 32, first_bytes);
+    store(index, to, first_bytes);
 }
 
 // n bytes moved down to `at`; the first first, but the last 32 are read before.
@@ -98,11 +91,10 @@ pub fn move_down(index: &mut [u8], at: usize, from: usize, n: usize)
         return;
     }
     let last = n - 32;
-    let last_bytes = load_bytes(index, from + last, 32);
-    let mut i = 0;
-    while i < last {
-        move_part(index, at + i, from + i, 32);
-        i += 32;
+    let last_bytes = load::<32>(index, from + last);
+    for part in 0..(n - 1) / 32 {
+        let i = 32 * part;
+        move_part::<32>(index, at + i, from + i);
     }
-    store_bytes(index, at + last, 32, last_bytes);
+    store(index, at + last, last_bytes);
 }
