@@ -10,9 +10,9 @@ use Rattle.leaf_check.proofs.entries.scan_entry.Goals.{then-s-via-then-s, then-s
 pub returns-then-s : goal.returns-then-s
 returns-then-s c =
     elim c.then-s.branch [
-      then-s-via-then-s w ↦ entry_closed _ _ _ _ _ _ c.args.p w.if-s.true
-    | then-s-via-else-s+then-not-entry_fits w ↦ entry_refused _ _ _ _ _ _ c.args.p w.if-s.false (sym w.entry_fits.ensures ∙ w.if-not-entry_fits.true)
-    | then-s-via-else-s+else-not-entry_fits+then-too_many w ↦ entry_beyond _ _ _ _ _ _ c.args.p (sym w.too_many.ensures ∙ w.if-too_many.true)
+      | then-s-via-then-s w ↦ entry_closed _ _ _ _ _ _ c.args.p w.if-s.true
+      | then-s-via-else-s+then-not-entry_fits w ↦ entry_refused _ _ _ _ _ _ c.args.p w.if-s.false (sym w.entry_fits.ensures ∙ w.if-not-entry_fits.true)
+      | then-s-via-else-s+else-not-entry_fits+then-too_many w ↦ entry_beyond _ _ _ _ _ _ c.args.p (sym w.too_many.ensures ∙ w.if-too_many.true)
     ]
 
 pub returns-then-d-eq0 : goal.returns-then-d-eq0
