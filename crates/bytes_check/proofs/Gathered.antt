@@ -1,10 +1,9 @@
 -- What is gathered by or over a pass, and what it says of each place. Assumes nothing.
-use Rattle.std.proofs.Common.{◌≡◌, ℕ, zero, suc, ◌+◌, ◌-◌, ◌%◌, ◌^◌, ◌<◌, ◌≤◌, Bool, true, false, cond, eqb, ◌⊎◌, ◌↔◌, List, [], ◌∷◌, length, get_or, take, sym, refl, ap, ◌∙◌, subst, inl, inr, true≢false, mod-eq_of_lt, arith, take_all, pow_pos, below_more, eqb-true}
+use Rattle.std.proofs.Common.{◌≡◌, ℕ, zero, suc, ◌+◌, ◌-◌, ◌%◌, ◌^◌, ◌<◌, ◌≤◌, Bool, true, false, cond, eqb, ◌⊎◌, ◌↔◌, List, [], ◌∷◌, length, get_or, take, sym, refl, ap, ◌∙◌, subst, inl, inr, mod-eq_of_lt, arith, pow_pos, below_more}
 use lib.Bits.{bit_or, bit_and, or_add_and, and_le_r, and_le_l, or_lt, and_zero_r, and_mask}
-use borrow.Author.Tests.{eqb-false}
 use Rattle.leaf_list.specs.Register.{count_in_use}
 use Rattle.index_table.specs.Soundness.{SoundRecord}
-use Rattle.bytes_check.specs.Scans.{ZeroBetween, SmallBytes, SoundRecords, Tallied}
+use Rattle.bytes_check.specs.Scans.{SmallBytes, SoundRecords}
 use Rattle.bytes_check.specs.Gatherings.{UsedBetween, four_keys, Gathered}
 use Rattle.bytes_check.specs.declared.register.Gathering.{Gathering}
 
@@ -18,28 +17,11 @@ or_right a b = omega (arith, or_add_and a b, and_le_l a b)
 pub or_zero : (a b : ℕ) → a ≡ 0 → b ≡ 0 → bit_or a b ≡ 0
 or_zero a b h g = rw (h, g)
 
--- What holds at every place from a up to b, and at b, holds up to b + 1.
-pub one_place_more : (P : ℕ → Type 0) (a b : ℕ) → ((k : ℕ) → a ≤ k → k < b → P k) → P b → (k : ℕ) → a ≤ k → k < b + 1 → P k
-one_place_more P a b f h k l m = go (eqb k b) refl
-  where
-    go : (t : Bool) → eqb k b ≡ t → P k
-    go true e = subst P (sym (eqb-true k b e)) h
-    go false e =
-        let n : k ≡ b → ⊥ = eqb-false k b e in
-        f k l (omega arith)
-
--- Bytes gathered so far are zero exactly if each is: one more.
-pub zero_more : (any from i : ℕ) (xs : List ℕ) → from ≤ i → ((any ≡ 0) ↔ ZeroBetween from i xs) → ((bit_or any (get_or xs i 0) ≡ 0) ↔ ZeroBetween from (i + 1) xs)
-zero_more any from i xs l h = (
-  (λ z. one_place_more (λ k. get_or xs k 0 ≡ 0) from i (h.0 (omega (arith, or_left any (get_or xs i 0)))) (omega (arith, or_right any (get_or xs i 0)))),
-  (λ f. or_zero any (get_or xs i 0) (h.1 (λ k a b. f k a (omega arith))) (f i l (omega arith))),
-)
-
--- Bytes gathered so far are 0 or 1 exactly if each is: one more.
-pub small_more : (any i : ℕ) (xs : List ℕ) → ((any < 2) ↔ SmallBytes i xs) → ((bit_or any (get_or xs i 0) < 2) ↔ SmallBytes (i + 1) xs)
-small_more any i xs h = (
-  (λ z. below_more (λ k. get_or xs k 0 ≤ 1) i (h.0 (omega (arith, or_left any (get_or xs i 0)))) (omega (arith, or_right any (get_or xs i 0)))),
-  (λ f. or_lt 1 any (get_or xs i 0) (h.1 (λ k a. f k (omega arith))) (omega (arith, f i (omega arith)))),
+-- Bits gathered so far are as wide as the widest number: one more.
+pub bits_more : (m i bits : ℕ) (xs : List ℕ) → ((bits < 2 ^ m) ↔ ((k : ℕ) → k < i → get_or xs k 0 < 2 ^ m)) → (bit_or bits (get_or xs i 0) < 2 ^ m) ↔ ((k : ℕ) → k < i + 1 → get_or xs k 0 < 2 ^ m)
+bits_more m i bits xs h = (
+  (λ q. below_more (λ k. get_or xs k 0 < 2 ^ m) i (h.0 (omega (arith, or_left bits (get_or xs i 0)))) (omega (arith, or_right bits (get_or xs i 0)))),
+  (λ f. or_lt m bits (get_or xs i 0) (h.1 (λ k l. f k (omega arith))) (f i (omega arith))),
 )
 
 -- A key that is 0 beside a byte 0: what the pass gathers of a record is zero exactly then. x is the byte less 1, wrapped.
@@ -83,19 +65,12 @@ count_more (u ∷ us) (suc i) h l =
     go false q = q
 
 module _ (keys used : List ℕ) (i : ℕ) (inside : i < length used) where
-  -- One key more among the bits of all.
-  widths_more : {g : Gathering} → Gathered keys used i g → (m : ℕ) → (bit_or g.keys (get_or keys i 0) < 2 ^ m) ↔ ((r : ℕ) → r < i + 1 → get_or keys r 0 < 2 ^ m)
-  widths_more {g} h m = (
-    (λ q. below_more (λ r. get_or keys r 0 < 2 ^ m) i ((h.widths m).0 (omega (arith, or_left g.keys (get_or keys i 0)))) (omega (arith, or_right g.keys (get_or keys i 0)))),
-    (λ f. or_lt m g.keys (get_or keys i 0) ((h.widths m).1 (λ r l. f r (omega arith))) (f i (omega arith))),
-  )
-
   -- One record more: u is its byte, and x that byte less 1, wrapped.
   pub gathered_more : {g : Gathering} (u x : ℕ) → get_or keys i 0 < 2 ^ 64 → u ≡ get_or used i 0 → u ≤ 1 → x < 2 ^ 64 → (x + 1) % 2 ^ 64 ≡ u → Gathered keys used i g
       → Gathered keys used (i + 1) (record { keys = bit_or g.keys (get_or keys i 0); odd = bit_or g.odd (bit_and (get_or keys i 0) x); held = g.held + u })
   gathered_more {g} u x kh uh us xh e h =
       record {
-        widths = widths_more h;
+        widths = λ m. bits_more m i g.keys keys (h.widths m);
         records = (
           (λ q. below_more Good i (h.records.0 (omega (arith, or_left g.odd mark))) (good (bits.0 (omega (arith, or_right g.odd mark))))),
           (λ f. or_zero g.odd mark (h.records.1 (λ r l. f r (omega arith))) (bits.1 (subst (λ (y : ℕ). y ≡ 0 → get_or keys i 0 ≡ 0) (sym uh) (f i (omega arith))))),
@@ -120,7 +95,7 @@ module _ (keys used : List ℕ) (i : ℕ) (inside : i < length used) where
   pub gathered_used : {g : Gathering} (j n : ℕ) → j ≡ i + 1 → n ≡ g.held + 1 → get_or used i 0 ≡ 1 → Gathered keys used i g
       → Gathered keys used j (record { keys = bit_or g.keys (get_or keys i 0); odd = g.odd; held = n })
   gathered_used {g} j n p q u h = rw (p, q) record {
-    widths = widths_more h;
+    widths = λ m. bits_more m i g.keys keys (h.widths m);
     records = (
       (λ z. below_more (λ r. get_or used r 0 ≡ 0 → get_or keys r 0 ≡ 0) i (h.records.0 z) (λ f. absurd (omega arith))),
       (λ f. h.records.1 (λ r l. f r (omega arith))),
@@ -171,18 +146,3 @@ sound_small w keys used s r l = go (s r l).byte
     go : {u : ℕ} → (u ≡ 0) ⊎ (u ≡ 1) → u ≤ 1
     go (inl e) = omega arith
     go (inr e) = omega arith
-
-pub tallied_no : (w : ℕ) (keys used : List ℕ) (held : ℕ) → (SoundRecords w keys used → ⊥) → Tallied w keys used (record { fits = false; held = held })
-tallied_no w keys used held h = record { fits = ((λ e. absurd (true≢false (sym e))), (λ s. absurd (h s))); held = λ e. absurd (true≢false (sym e)) }
-
-pub tallied_yes : (w : ℕ) (keys used : List ℕ) {g : Gathering} → g.odd ≡ 0 → g.keys < 2 ^ w → SmallBytes (length used) used → Gathered keys used (length used) g
-    → Tallied w keys used (record { fits = true; held = g.held })
-tallied_yes w keys used o k small h =
-    record {
-      fits = ((λ t. (gathered_sound w keys used small h).0 (o, k)), (λ s. refl));
-      held = λ t. h.count ∙ ap count_in_use (take_all (length used) used (omega arith));
-    }
-
-pub tallied_wide : (w : ℕ) (keys used : List ℕ) {g : Gathering} → 2 ^ w ≤ g.keys → SmallBytes (length used) used → Gathered keys used (length used) g
-    → Tallied w keys used (record { fits = false; held = g.held })
-tallied_wide w keys used {g} k small h = tallied_no w keys used g.held (λ s. omega (arith, ((gathered_sound w keys used small h).1 s).1))

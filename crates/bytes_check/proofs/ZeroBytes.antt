@@ -1,5 +1,5 @@
 -- Bytes that are all zero, in a part of the table and in a page. Assumes nothing.
-use Rattle.std.proofs.Common.{◌≡◌, ℕ, zero, suc, ◌+◌, ◌-◌, ◌*◌, ◌<◌, ◌≤◌, ◌↔◌, List, [], ◌∷◌, length, get_or, take, drop, sym, ap, ◌∙◌, arith, length-drop, length-take, get_or-drop, get_or-take}
+use Rattle.std.proofs.Common.{◌≡◌, ℕ, zero, suc, ◌+◌, ◌-◌, ◌*◌, ◌^◌, ◌<◌, ◌≤◌, true, eqb, ◌↔◌, List, [], ◌∷◌, length, get_or, take, drop, sym, ap, ◌∙◌, arith, length-drop, length-take, get_or-drop, get_or-take, eq-eqb, eqb-true}
 use Rattle.index_table.specs.Bytes.{AllZero}
 use Rattle.index_table.specs.Layout.{Layout, page_size, page_start, Within, page_bytes, count_of, layout_of}
 use Rattle.index_table.specs.Header.{spare_of}
@@ -38,6 +38,18 @@ module _ (b : List ℕ) (i n k : ℕ) (within : i + n ≤ length b) where
         ap (λ (x : ℕ). get_or b x 0) (sym j) ∙ sym (part_byte (m - (i + k)) (omega arith)) ∙ (zero_places part).0 z (m - (i + k)) (omega (arith, part_length))),
     (λ z. (zero_places part).1 (λ j l. let g : j < n - k = omega (arith, part_length) in part_byte j g ∙ z (i + (k + j)) (omega arith) (omega arith))),
   )
+
+-- Bytes with no bit are zero: what gathers the bits of a part of the table says so.
+pub no_bits : (b : List ℕ) (from to bits : ℕ) → from ≤ to → to ≤ length b
+    → ((bits < 2 ^ 0) ↔ ((k : ℕ) → k < length (take (to - from) (drop from b)) → get_or (take (to - from) (drop from b)) k 0 < 2 ^ 0)) → (eqb bits 0 ≡ true) ↔ ZeroBetween from to b
+no_bits b from to bits l m h =
+    let i : from + 0 ≡ from = omega arith in
+    let j : from + (to - from) ≡ to = omega arith in
+    let part = rw (i, j) at (zero_part b from (to - from) 0 (omega arith)) in
+    let places = zero_places (take (to - from) (drop from b)) in (
+      (λ t. part.0 (places.1 (λ k g. omega (arith, h.0 (omega (arith, eqb-true bits 0 t)) k g)))),
+      (λ f. eq-eqb bits 0 (let z : bits < 1 = h.1 (λ k g. omega (arith, places.0 (part.1 f) k g)) in omega arith)),
+    )
 
 -- The header's spare bytes.
 pub zero_spare : (b : List ℕ) → 16 ≤ length b → AllZero (spare_of b) ↔ ZeroBetween 8 16 b

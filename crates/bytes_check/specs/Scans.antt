@@ -1,5 +1,5 @@
 -- What the plain passes over bytes and records answer. Assumes nothing.
-use Rattle.std.specs.Prelude.{◌≡◌, ℕ, ◌<◌, ◌≤◌, true, ◌↔◌, List, length, slice_index}
+use Rattle.std.specs.Prelude.{◌≡◌, ℕ, ◌<◌, ◌≤◌, List, length, slice_index, Option, MatchOption}
 use Rattle.leaf_list.specs.Register.{count_in_use}
 use Rattle.index_table.specs.Bytes.{AllZero}
 use Rattle.index_table.specs.Layout.{layout_of, page_start, page_bytes}
@@ -7,7 +7,6 @@ use Rattle.index_table.specs.Header.{width_of, entries_of, pages_of, spare_of}
 use Rattle.index_table.specs.Pages.{Pages, pages_at, in_use}
 use Rattle.index_table.specs.Soundness.{Limits, SoundRecord, Cleared}
 use Rattle.index_table.specs.declared.header.Index.{Index}
-use Rattle.bytes_check.specs.declared.register.Tally.{Tally}
 
 -- The bytes from one place up to another are all zero.
 abbrev pub ZeroBetween : ℕ → ℕ → List ℕ → Type 0
@@ -21,10 +20,9 @@ SmallBytes n bytes = (k : ℕ) → k < n → slice_index bytes k ≤ 1
 abbrev pub SoundRecords : ℕ → List ℕ → List ℕ → Type 0
 SoundRecords w keys used = (r : ℕ) → r < length used → SoundRecord w (slice_index keys r) (slice_index used r)
 
--- One pass over the register: whether every record is sound, and then how many are in use.
-pub record Tallied (w : ℕ) (keys used : List ℕ) (t : Tally) : Type 0 where
-  pub fits : (t.fits ≡ true) ↔ SoundRecords w keys used
-  pub held : t.fits ≡ true → t.held ≡ count_in_use used
+-- One pass over the register: how many records are in use if every record is sound, and else none.
+abbrev pub Tallied : ℕ → List ℕ → List ℕ → Option ℕ → Type 0
+Tallied w keys used t = MatchOption t (SoundRecords w keys used → ⊥) (λ held. SoundRecords w keys used × (held ≡ count_in_use used))
 
 -- The pages of a table whose header says h.
 abbrev pub rows_of : Index → List ℕ → Pages

@@ -4,7 +4,7 @@ ghost use Rattle.index_table.specs.Layout.{layout_of, page_start, Within};
 ghost use Rattle.bytes_check.specs.Scans.{PageCleared, rows_of};
 
 use index_table::header::Index;
-use index_table::layout::{PageNo, wide, wide16};
+use index_table::layout::PageNo;
 
 // Whether a page is in use exactly if it is marked, and is zero behind its entries, or all of it if it is free.
 fn page_cleared(index: &[u8], h: Index, page: PageNo, mark: u8) -> bool
@@ -12,18 +12,12 @@ fn page_cleared(index: &[u8], h: Index, page: PageNo, mark: u8) -> bool
     ensures { (result ≡ true) ↔ PageCleared h index.now page.0 mark }
 {
     let at = index_table::layout::page_start(h.entries, page);
-    let end = at + (2 + 3 * wide(h.entries));
+    let end = at + (2 + 3 * usize::from(h.entries));
     let n = index_table::layout::count(index, h.entries, page);
     if n == 0 {
-        if mark != 0 {
-            return false;
-        }
-        return crate::zeros::all_zero(index, at, end);
+        return mark == 0 && crate::zeros::all_zero(index, at, end);
     }
-    if mark == 0 {
-        return false;
-    }
-    crate::zeros::all_zero(index, at + (2 + 3 * wide(n)), end)
+    mark != 0 && crate::zeros::all_zero(index, at + (2 + 3 * usize::from(n)), end)
 }
 
 // Whether every page is so.
@@ -31,12 +25,10 @@ pub fn all_cleared(index: &[u8], map: &[u8], h: Index) -> bool
     requires { (page_start (layout_of h.entries) h.pages ≤ length index.now) × (h.pages ≤ length map.now) × ((q : ℕ) → slice_index map.now q ≤ 1) × ((q : ℕ) → slice_index map.now q ≡ 1 → length (rows_of h index.now q) ≤ h.entries) }
     ensures { (result ≡ true) ↔ ((q : ℕ) → q < h.pages → PageCleared h index.now q (slice_index map.now q)) }
 {
-    let mut page: u16 = 0;
-    while page < h.pages {
-        if !page_cleared(index, h, PageNo(page), map[wide16(page)]) {
+    for page in 0..h.pages {
+        if !page_cleared(index, h, PageNo(page), map[usize::from(page)]) {
             return false;
         }
-        page += 1;
     }
     true
 }

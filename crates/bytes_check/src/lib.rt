@@ -3,6 +3,5 @@
 
 pub mod cleared;
 pub mod header;
-pub mod numbers;
 pub mod register;
 pub mod zeros;

@@ -3,15 +3,6 @@ ghost use Rattle.std.specs.Prelude.{◌≡◌, ◌+◌, ◌<◌, ◌≤◌, true
 ghost use Rattle.bytes_check.specs.Scans.{SmallBytes, Tallied};
 ghost use Rattle.bytes_check.specs.Gatherings.{UsedBetween, four_keys, Paired, Gathered};
 
-use crate::numbers::wide;
-
-// Whether every record is sound, and how many are in use.
-#[derive(Clone, Copy)]
-pub struct Tally {
-    pub fits: bool,
-    pub held: u64,
-}
-
 // What a pass gathers of records: the bits of all keys, those of keys on free records, and how many are in use.
 #[derive(Clone, Copy)]
 struct Gathering {
@@ -24,29 +15,7 @@ struct Gathering {
 fn bytes_fit(used: &[u8]) -> bool
     ensures { (result ≡ true) ↔ SmallBytes (length used.now) used.now }
 {
-    let mut any = 0u8;
-    let mut i = 0;
-    while i < used.len() {
-        any |= used[i];
-        i += 1;
-    }
-    any <= 1
-}
-
-// Two bytes as one number: 257 exactly if both are 1.
-fn two_bytes(used: &[u8], i: usize) -> u64
-    requires { i + 2 ≤ length used.now }
-    ensures { (result < 65536) × ((result ≡ 257) ↔ UsedBetween i (i + 2) used.now) }
-{
-    wide(used[i]) + 256 * wide(used[i + 1])
-}
-
-// Four bytes as one number: 16843009 exactly if all are 1.
-fn four_bytes(used: &[u8], i: usize) -> u64
-    requires { i + 4 ≤ length used.now }
-    ensures { (result < 4294967296) × ((result ≡ 16843009) ↔ UsedBetween i (i + 4) used.now) }
-{
-    two_bytes(used, i) + 65536 * two_bytes(used, i + 2)
+    crate::zeros::bits_of(used) <= 1
 }
 
 // Whether eight records are all in use: their bytes as one number, each 1.
@@ -54,7 +23,17 @@ fn all_in_use(used: &[u8], i: usize) -> bool
     requires { i + 8 ≤ length used.now }
     ensures { (result ≡ true) ↔ UsedBetween i (i + 8) used.now }
 {
-    four_bytes(used, i) + 4294967296 * four_bytes(used, i + 4) == 72340172838076673
+    let eight = [
+        used[i],
+        used[i + 1],
+        used[i + 2],
+        used[i + 3],
+        used[i + 4],
+        used[i + 5],
+        used[i + 6],
+        used[i + 7],
+    ];
+    u64::from_le_bytes(eight) == 0x0101_0101_0101_0101
 }
 
 // The bits of four keys, and those gathered before.
@@ -70,11 +49,11 @@ fn gather_one(keys: &[u64], used: &[u8], i: usize, g: Gathering) -> Gathering
     requires { Paired keys.now used.now × (i < length used.now) × Gathered keys.now used.now i g }
     ensures { Gathered keys.now used.now (i + 1) result }
 {
-    let byte = wide(used[i]);
+    let byte = u64::from(used[i]);
     let key = keys[i];
     Gathering {
         keys: g.keys | key,
-        odd: g.odd | (key & std::num::wrapping_sub_u64(byte, 1)),
+        odd: g.odd | (key & byte.wrapping_sub(1)),
         held: g.held + byte,
     }
 }
@@ -85,10 +64,8 @@ fn gather_each(keys: &[u64], used: &[u8], from: usize, to: usize, g: Gathering) 
     ensures { Gathered keys.now used.now to result }
 {
     let mut sum = g;
-    let mut i = from;
-    while i < to {
+    for i in from..to {
         sum = gather_one(keys, used, i, sum);
-        i += 1;
     }
     sum
 }
@@ -118,40 +95,25 @@ fn gather_all(keys: &[u64], used: &[u8]) -> Gathering
         odd: 0,
         held: 0,
     };
-    let mut i = 0;
-    while used.len() - i >= 8 {
-        g = gather_eight(keys, used, i, g);
-        i += 8;
+    let eights = used.len() / 8;
+    for eight in 0..eights {
+        g = gather_eight(keys, used, 8 * eight, g);
     }
-    gather_each(keys, used, i, used.len(), g)
+    gather_each(keys, used, 8 * eights, used.len(), g)
 }
 
-// The bytes, then the records. What is wrong is gathered and judged at the end of a pass: a byte above 1; a key on a free record, a key too wide.
-pub fn tally_records(w: u64, keys: &[u64], used: &[u8]) -> Tally
+// How many records are in use, if every record is sound. What is wrong is gathered and judged at the end of a pass: a byte above 1; a key on a free
+// record, a key too wide.
+pub fn tally_records(w: u64, keys: &[u64], used: &[u8]) -> Option<u64>
     requires { (w ≤ 64) × (length keys.now ≡ length used.now) × (length used.now ≤ 65534) }
     ensures { Tallied w keys.now used.now result }
 {
     if !bytes_fit(used) {
-        return Tally {
-            fits: false,
-            held: 0,
-        };
+        return None;
     }
     let g = gather_all(keys, used);
-    if g.odd != 0 {
-        return Tally {
-            fits: false,
-            held: g.held,
-        };
+    if g.odd != 0 || leaf_list::too_wide(w, g.keys) {
+        return None;
     }
-    if leaf_list::too_wide(w, g.keys) {
-        return Tally {
-            fits: false,
-            held: g.held,
-        };
-    }
-    Tally {
-        fits: true,
-        held: g.held,
-    }
+    Some(g.held)
 }

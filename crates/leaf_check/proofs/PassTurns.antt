@@ -51,6 +51,10 @@ module _ (h : Index) (index keys used : List ℕ) (page c count : ℕ) (s : Scan
     pub first : i ≡ 0 → scan ≡ s
     pub trail : 0 < i → (scan.trail ≡ (entry_at h index page (i - 1)).0) × (c < scan.trail)
 
+-- The last turn, by the number that the code has for its entry.
+pub turn_at : {h : Index} {index keys used : List ℕ} {page c count : ℕ} {s : Scan} {pass : Pass} {i n : ℕ} → i ≡ n → PassTurn h index keys used page c count s pass i → PassTurn h index keys used page c count s pass n
+turn_at {h} {index} {keys} {used} {page} {c} {count} {s} {pass} e t = subst (PassTurn h index keys used page c count s pass) e t
+
 -- A dummy is counted as one, and any other entry as live.
 counted_one : (b : Bool) (live dummies n : ℕ) → live + dummies ≡ n → cond b live (suc live) + cond b (suc dummies) dummies ≡ n + 1
 counted_one true live dummies n e = omega arith

@@ -30,19 +30,12 @@ fn pointer_fits(w: u64, keys: &[u64], used: &[u8], disc: u64, trail: u64, d: u64
     ensures { result ≡ pointer_fits w (key_at keys.now) (in_use used.now) disc trail d (record_of 65535 p) }
 {
     if p == 65535 {
-        if trail == 0 {
-            return true;
-        }
-        return trail < d;
+        return trail == 0 || trail < d;
     }
     let r = p as usize;
-    if r >= used.len() {
-        return false;
-    }
-    if used[r] != 1 {
-        return false;
-    }
-    leaf_list::agree(w, keys[r], disc, leaf_list::leaf_depth(trail, d))
+    r < used.len()
+        && used[r] == 1
+        && leaf_list::agree(w, keys[r], disc, leaf_list::leaf_depth(trail, d))
 }
 
 // Whether an entry fits: its depth is at most w, the discriminator's bit there is clear, and after a dummy it is deeper.
@@ -50,30 +43,17 @@ fn entry_fits(w: u64, keys: &[u64], used: &[u8], s: Scan, d: u64, p: u32) -> boo
     requires { (w ≤ 64) × (s.disc < 2 ^ w) × (s.trail ≤ w) × NarrowRegister w keys.now used.now }
     ensures { result ≡ entry_fits w (key_at keys.now) (in_use used.now) s.disc s.trail s.dummy d (record_of 65535 p) }
 {
-    if d > w {
-        return false;
-    }
-    if d != 0 {
-        if leaf_list::bit_is_set(w, s.disc, d) {
-            return false;
-        }
-    }
-    if s.dummy {
-        if d <= s.trail {
-            return false;
-        }
-    }
-    pointer_fits(w, keys, used, s.disc, s.trail, d, p)
+    d <= w
+        && (d == 0 || !leaf_list::bit_is_set(w, s.disc, d))
+        && (!s.dummy || s.trail < d)
+        && pointer_fits(w, keys, used, s.disc, s.trail, d, p)
 }
 
 // Whether the entry would be live beyond the records held.
 fn too_many(held: u64, live: u64, p: u32) -> bool
     ensures { result ≡ (not (p == 65535) && nat_le held live) }
 {
-    if p == 65535 {
-        return false;
-    }
-    live >= held
+    p != 65535 && held <= live
 }
 
 // How many entries are live behind this one.
@@ -81,10 +61,7 @@ fn live_behind(live: u64, p: u32) -> u64
     requires { live < countless }
     ensures { result ≡ (if nat_eq p 65535 then live else suc live) }
 {
-    if p == 65535 {
-        return live;
-    }
-    live + 1
+    if p == 65535 { live } else { live + 1 }
 }
 
 // One entry behind what is carried.
@@ -92,13 +69,7 @@ pub fn scan_entry(w: u64, keys: &[u64], used: &[u8], held: u64, s: Scan, d: u64,
     requires { (w ≤ 64) × (held < 65536) × Carried w held s × NarrowRegister w keys.now used.now }
     ensures { Scanned (Unit {0}) w keys.now used.now held s (entry d (record_of 65535 p) ∷ []) result }
 {
-    if s.closed {
-        return Checked { faults: 1, scan: s };
-    }
-    if !entry_fits(w, keys, used, s, d, p) {
-        return Checked { faults: 1, scan: s };
-    }
-    if too_many(held, s.live, p) {
+    if s.closed || !entry_fits(w, keys, used, s, d, p) || too_many(held, s.live, p) {
         return Checked { faults: 1, scan: s };
     }
     let live = live_behind(s.live, p);

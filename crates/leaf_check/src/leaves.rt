@@ -4,7 +4,6 @@ ghost use Rattle.bytes_check.specs.Scans.{rows_of};
 ghost use Rattle.leaf_check.specs.Leaves.{leaves_of_row, RowSound, LeavesPre, Scanned};
 
 use crate::entries::{Checked, Scan};
-use bytes_check::numbers::{wide, wide16};
 use index_table::header::Index;
 use index_table::layout::PageNo;
 
@@ -12,10 +11,7 @@ use index_table::layout::PageNo;
 pub fn closes(c: u8, d: u8, last: bool) -> bool
     ensures { result ≡ (if last then (d == c) else nat_lt c d) }
 {
-    if last {
-        return d == c;
-    }
-    c < d
+    if last { d == c } else { c < d }
 }
 
 // The entries of a page of level 0, behind what is carried.
@@ -32,10 +28,10 @@ pub fn scan_leaves(
     requires { LeavesPre h index.now keys.now used.now masks.now page.0 s }
     ensures { Scanned (RowSound h index.now c 0 (rows_of h index.now page.0) []) h.width keys.now used.now h.held s (leaves_of_row 0 (rows_of h index.now) (rows_of h index.now page.0)) result }
 {
-    let w = wide(h.width);
-    let held = wide16(h.held);
-    let close = wide(c);
-    let n = index_table::layout::wide(index_table::layout::count(index, h.entries, page));
+    let w = u64::from(h.width);
+    let held = h.held as u64;
+    let close = u64::from(c);
+    let n = usize::from(index_table::layout::count(index, h.entries, page));
     if n == 0 {
         return Checked { faults: 0, scan: s };
     }
@@ -49,24 +45,22 @@ pub fn scan_leaves(
     if !crate::passes::record_told(used, pass.disc, pass.low, first) {
         return Checked { faults: 1, scan: s };
     }
-    let mut i: usize = 0;
-    while i < last {
+    for i in 0..last {
         let d = index_table::layout::depth(index, h.entries, page, i);
         let p = index_table::layout::pointer(index, h.entries, page, i);
-        pass = crate::passes::pass_entry(keys, most, pass, masks[index_table::layout::wide(d)], p);
+        pass = crate::passes::pass_entry(keys, most, pass, masks[usize::from(d)], p);
         if !pass.ok {
             return crate::passes::refused(pass);
         }
-        i += 1;
     }
-    let scan = crate::passes::scan_behind(index, h, page, most, s, i, pass);
+    let scan = crate::passes::scan_behind(index, h, page, most, s, last, pass);
     if held < scan.live {
         return Checked { faults: 1, scan };
     }
-    let d = index_table::layout::depth(index, h.entries, page, i);
+    let d = index_table::layout::depth(index, h.entries, page, last);
     if d != c {
         return Checked { faults: 1, scan };
     }
-    let p = index_table::layout::pointer(index, h.entries, page, i);
-    crate::entries::scan_entry(w, keys, used, held, scan, wide(d), p)
+    let p = index_table::layout::pointer(index, h.entries, page, last);
+    crate::entries::scan_entry(w, keys, used, held, scan, u64::from(d), p)
 }

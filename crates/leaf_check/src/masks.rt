@@ -9,10 +9,8 @@ pub fn set_masks(w: u64, masks: &mut [u64])
 {
     let last = w as usize;
     let mut below = crate::passes::bits_behind(w, 0);
-    let mut d: usize = 0;
-    while d <= last {
+    for d in 0..=last {
         masks[d] = below;
         below /= 2;
-        d += 1;
     }
 }

@@ -4,7 +4,6 @@ ghost use Rattle.index_table.specs.Layout.{Within, layout_of};
 ghost use Rattle.leaf_check.specs.Passes.{Begun, told, Passed, scan_behind};
 
 use crate::entries::{Checked, Scan};
-use bytes_check::numbers::wide;
 use index_table::header::Index;
 use index_table::layout::PageNo;
 
@@ -38,13 +37,7 @@ pub fn bits_behind(w: u64, t: u64) -> u64
 fn first_floor(c: u64, dummy: bool, trail: u64) -> u64
     ensures { result ≡ max c (if dummy then trail else 0) }
 {
-    if !dummy {
-        return c;
-    }
-    if c < trail {
-        return trail;
-    }
-    c
+    c.max(if dummy { trail } else { 0 })
 }
 
 // Before the first entry of a page that c closes.
@@ -65,10 +58,7 @@ pub fn pass_start(w: u64, c: u64, s: Scan) -> Pass
 fn depth_fits(disc: u64, limit: u64, below: u64) -> bool
     ensures { result ≡ (nat_lt below limit && bit_and disc (below + 1) == 0) }
 {
-    if below >= limit {
-        return false;
-    }
-    disc & (below + 1) == 0
+    below < limit && disc & (below + 1) == 0
 }
 
 // Whether the key of an entry's record tells that it is in use, or else it is: a free record's key is 0, and differs from a discriminator
@@ -76,17 +66,8 @@ fn depth_fits(disc: u64, limit: u64, below: u64) -> bool
 pub fn record_told(used: &[u8], disc: u64, low: u64, p: u32) -> bool
     ensures { result ≡ told disc low used.now p }
 {
-    if low < disc {
-        return true;
-    }
-    if p == 65535 {
-        return true;
-    }
     let r = p as usize;
-    if r >= used.len() {
-        return false;
-    }
-    used[r] == 1
+    low < disc || p == 65535 || r < used.len() && used[r] == 1
 }
 
 // Whether a key differs from the discriminator at most in the bits of low, and in those of below.
@@ -94,10 +75,7 @@ fn key_fits(key: u64, disc: u64, low: u64, below: u64) -> bool
     ensures { result ≡ (nat_le (bit_xor key disc) below && nat_le (bit_xor key disc) low) }
 {
     let x = key ^ disc;
-    if below < x {
-        return false;
-    }
-    x <= low
+    x <= below && x <= low
 }
 
 // A pass that stops at an entry.
@@ -121,7 +99,7 @@ pub fn pass_entry(keys: &[u64], most: u64, s: Pass, below: u64, p: u32) -> Pass
     if !depth_fits(s.disc, s.limit, below) {
         return stopped(s);
     }
-    let disc = std::num::wrapping_add_u64(s.disc | below, 1);
+    let disc = (s.disc | below).wrapping_add(1);
     let r = p as usize;
     if r < keys.len() {
         return Pass {
@@ -185,7 +163,7 @@ pub fn scan_behind(
     }
     Scan {
         disc: pass.disc,
-        trail: wide(index_table::layout::depth(index, h.entries, page, n - 1)),
+        trail: u64::from(index_table::layout::depth(index, h.entries, page, n - 1)),
         dummy: pass.limit < most,
         live: s.live + (n as u64) - pass.dummies,
         closed: false,

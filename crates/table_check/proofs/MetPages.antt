@@ -5,10 +5,8 @@ use mathlib.Core.Bool.{Bool, true, false, true≢false}
 use mathlib.Core.List.{List, [], ◌∷◌}
 use Prim.Native.Nat.{ℕ, suc, ◌+◌, ◌-◌, ◌≤◌, ◌<◌}
 use native.Mathlib.Omega.{arith}
-use lib.Dec.{leb}
 use lib.ListN.{length, get_or, set, length-set}
 use lib.Seq.{get_or-set_same, get_or-set_other}
-use borrow.Author.Tests.{leb-true, le-leb}
 use Rattle.page_tree.specs.Rows.{Closed}
 use Rattle.index_table.specs.Layout.{Ref, layout_of, page_bytes, level_of, count_of}
 use Rattle.index_table.specs.Pages.{Pages, node_at, same, met, met_all}
@@ -34,18 +32,11 @@ module _ (h : Index) (index : List ℕ) (level page : ℕ) where
   abbrev bytes : List ℕ
   bytes = page_bytes (layout_of h.entries) index page
 
-  -- A page with no entries has not the size of a page in use.
-  pub sized_empty : (n : ℕ) → n ≡ count_of bytes → n ≡ 0 → Sized → ⊥
-  sized_empty n e z s = omega (arith, s.some, length_refs (layout_of h.entries) bytes)
-
-  -- A page of its number and level, by the test of its count.
-  pub sized_few : (n : ℕ) → page < h.pages → level_of bytes ≡ level → n ≡ count_of bytes → (n ≡ 0 → ⊥) → (leb n h.entries ≡ true) ↔ Sized
-  sized_few n p l e z = (
-    (λ t.
-        let k = length_refs (layout_of h.entries) bytes in
-        let f = leb-true n h.entries t in
-        record { number = p; level = l; some = omega arith; few = omega arith }),
-    (λ s. le-leb n h.entries (omega (arith, s.few, length_refs (layout_of h.entries) bytes))),
+  -- A page of its number and level, by its count.
+  pub sized_few : (n : ℕ) → page < h.pages → level_of bytes ≡ level → n ≡ count_of bytes → ((1 ≤ n) × (n ≤ h.entries)) ↔ Sized
+  sized_few n p l e = (
+    (λ t. let k = length_refs (layout_of h.entries) bytes in record { number = p; level = l; some = omega arith; few = omega arith }),
+    (λ s. let k = length_refs (layout_of h.entries) bytes in (omega (arith, s.some), omega (arith, s.few))),
   )
 
   -- ---- its mark

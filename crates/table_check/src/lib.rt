@@ -4,8 +4,6 @@
 ghost use Rattle.std.specs.Prelude.{◌≡◌, true, ◌↔◌};
 ghost use Rattle.index_table.specs.Soundness.{Sound};
 
-use bytes_check::numbers::{wide, wide16};
-
 pub mod pages;
 pub mod root;
 
@@ -13,19 +11,12 @@ pub mod root;
 pub fn check(index: &[u8], keys: &[u64], used: &[u8]) -> bool
     ensures { (result ≡ true) ↔ Sound index.now keys.now used.now }
 {
-    if keys.len() != used.len() {
-        return false;
-    }
-    if !bytes_check::header::header_fits(index, used.len()) {
+    if keys.len() != used.len() || !bytes_check::header::header_fits(index, used.len()) {
         return false;
     }
     let h = index_table::header::read(index);
-    let t = bytes_check::register::tally_records(wide(h.width), keys, used);
-    if !t.fits {
+    let Some(held) = bytes_check::register::tally_records(u64::from(h.width), keys, used) else {
         return false;
-    }
-    if t.held != wide16(h.held) {
-        return false;
-    }
-    root::pages_sound(index, keys, used, h)
+    };
+    held == u64::from(h.held) && root::pages_sound(index, keys, used, h)
 }

@@ -13,17 +13,9 @@ fn sized(index: &[u8], h: Index, level: u8, page: PageNo) -> bool
     requires { page_start (layout_of h.entries) h.pages ≤ length index.now }
     ensures { (result ≡ true) ↔ SizedPage (layout_of h.entries) h.pages level index.now page.0 }
 {
-    if h.pages <= page.0 {
-        return false;
-    }
-    if index_table::layout::level(index, h.entries, page) != level {
-        return false;
-    }
-    let n = index_table::layout::count(index, h.entries, page);
-    if n == 0 {
-        return false;
-    }
-    n <= h.entries
+    page.0 < h.pages
+        && index_table::layout::level(index, h.entries, page) == level
+        && (1..=h.entries).contains(&index_table::layout::count(index, h.entries, page))
 }
 
 // A page is met: it must be of its level and size, and not met before.
@@ -31,11 +23,8 @@ fn enter(index: &[u8], map: &mut [u8], h: Index, level: u8, page: PageNo) -> boo
     requires { (page_start (layout_of h.entries) h.pages ≤ length index.now) × (h.pages ≤ length map.old) }
     ensures { Entered h index.now level page.0 map.old map.new result }
 {
-    if !sized(index, h, level, page) {
-        return false;
-    }
-    let at = index_table::layout::wide16(page.0);
-    if map[at] != 0 {
+    let at = usize::from(page.0);
+    if !sized(index, h, level, page) || map[at] != 0 {
         return false;
     }
     map[at] = 1;
@@ -67,10 +56,9 @@ pub fn page_ok(
     if level == 0 {
         return leaf_check::leaves::scan_leaves(table, *keys, *used, *masks, h, page, c, s);
     }
-    let n = index_table::layout::wide(index_table::layout::count(table, h.entries, page));
+    let n = usize::from(index_table::layout::count(table, h.entries, page));
     let mut scan = s;
-    let mut i: usize = 0;
-    while i < n {
+    for i in 0..n {
         let d = index_table::layout::depth(table, h.entries, page, i);
         if !leaf_check::leaves::closes(c, d, i + 1 == n) {
             return Checked { faults: 1, scan };
@@ -81,7 +69,6 @@ pub fn page_ok(
             return next;
         }
         scan = next.scan;
-        i += 1;
     }
     Checked { faults: 0, scan }
 }

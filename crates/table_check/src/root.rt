@@ -5,7 +5,6 @@ ghost use Rattle.bytes_check.specs.Scans.{rows_of};
 ghost use Rattle.leaf_check.specs.DepthTable.{DepthMasks};
 ghost use Rattle.table_check.specs.Trees.{TreePre, TreeSound, PagesSound};
 
-use bytes_check::numbers::{wide, wide16};
 use index_table::header::Index;
 use leaf_check::entries::Scan;
 
@@ -14,14 +13,8 @@ fn root_fits(index: &[u8], h: Index, level: u8) -> bool
     requires { Within (layout_of h.entries) index.now h.root.0 }
     ensures { (result ≡ true) ↔ ((level ≤ 15) × (1 ≤ level → 2 ≤ length (rows_of h index.now h.root.0))) }
 {
-    if level > Index::MAX_LEVEL {
-        return false;
-    }
-    if level == 0 {
-        return true;
-    }
-    let root = h.root;
-    index_table::layout::count(index, h.entries, root) >= 2
+    level <= Index::MAX_LEVEL
+        && (level == 0 || index_table::layout::count(index, h.entries, h.root) >= 2)
 }
 
 // The tree below the root, marked in the map, and then every page against its mark.
@@ -44,23 +37,17 @@ fn tree_marked(
         live: 0,
         closed: false,
     };
-    let root = h.root;
-    let end = crate::pages::page_ok(&index, &keys, &used, &masks, map, h, level, root, 0, start);
-    if end.faults != 0 {
-        return false;
-    }
-    let scan = end.scan;
-    if !scan.closed {
-        return false;
-    }
-    if scan.live != wide16(h.held) {
+    let end = crate::pages::page_ok(
+        &index, &keys, &used, &masks, map, h, level, h.root, 0, start,
+    );
+    if end.faults != 0 || !end.scan.closed || end.scan.live != u64::from(h.held) {
         return false;
     }
     bytes_check::cleared::all_cleared(index, map, h)
 }
 
-// The same, with a map of its own for at most 1,024 pages.
-fn small_tree_sound(
+// The same, with a map of its own for at most so many pages.
+fn tree_sound_within<const PAGES: usize>(
     index: &[u8],
     keys: &[u64],
     used: &[u8],
@@ -68,26 +55,10 @@ fn small_tree_sound(
     h: Index,
     level: u8,
 ) -> bool
-    requires { TreePre h index.now keys.now used.now × (h.pages ≤ 1024) × DepthMasks h.width masks.now }
+    requires { TreePre h index.now keys.now used.now × (h.pages ≤ PAGES) × (PAGES ≤ 65536) × DepthMasks h.width masks.now }
     ensures { (result ≡ true) ↔ TreeSound h index.now keys.now used.now level }
 {
-    let mut map = [0u8; 1024];
-    tree_marked(index, keys, used, masks, &mut map, h, level)
-}
-
-// The same, with a map for as many as there may be.
-fn large_tree_sound(
-    index: &[u8],
-    keys: &[u64],
-    used: &[u8],
-    masks: &[u64],
-    h: Index,
-    level: u8,
-) -> bool
-    requires { TreePre h index.now keys.now used.now × DepthMasks h.width masks.now }
-    ensures { (result ≡ true) ↔ TreeSound h index.now keys.now used.now level }
-{
-    let mut map = [0u8; 65536];
+    let mut map = [0u8; PAGES];
     tree_marked(index, keys, used, masks, &mut map, h, level)
 }
 
@@ -97,11 +68,12 @@ fn tree_sound(index: &[u8], keys: &[u64], used: &[u8], h: Index, level: u8) -> b
     ensures { (result ≡ true) ↔ TreeSound h index.now keys.now used.now level }
 {
     let mut masks = [u64::MAX; 256];
-    leaf_check::masks::set_masks(wide(h.width), &mut masks);
+    leaf_check::masks::set_masks(u64::from(h.width), &mut masks);
     if h.pages <= 1024 {
-        return small_tree_sound(index, keys, used, &masks, h, level);
+        tree_sound_within::<1024>(index, keys, used, &masks, h, level)
+    } else {
+        tree_sound_within::<65536>(index, keys, used, &masks, h, level)
     }
-    large_tree_sound(index, keys, used, &masks, h, level)
 }
 
 // Whether the pages are sound, and the entries on level 0 pass.
@@ -114,8 +86,5 @@ pub fn pages_sound(index: &[u8], keys: &[u64], used: &[u8], h: Index) -> bool
         return false;
     }
     let level = index_table::layout::level(index, h.entries, root);
-    if !root_fits(index, h, level) {
-        return false;
-    }
-    tree_sound(index, keys, used, h, level)
+    root_fits(index, h, level) && tree_sound(index, keys, used, h, level)
 }

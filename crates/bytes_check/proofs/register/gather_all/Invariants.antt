@@ -1,10 +1,7 @@
--- The records before i are gathered. Assumes nothing.
-use Rattle.std.proofs.Common.{◌-◌, ◌≤◌, length}
+-- The records before these eight are gathered. Assumes nothing.
+use Rattle.std.proofs.Common.{◌*◌}
 use Rattle.bytes_check.specs.Gatherings.{Gathered}
 use Rattle.bytes_check.proofs.register.gather_all.Given as goal
 
-abbrev pub invariant-loop-i : goal.invariant-loop-i
-invariant-loop-i l = (l.i ≤ length l.used) × Gathered l.keys l.used l.i l.g
-
-abbrev pub decreases-loop-i : goal.decreases-loop-i
-decreases-loop-i l = length l.used - l.i
+abbrev pub invariant-loop-eight : goal.invariant-loop-eight
+invariant-loop-eight l = Gathered l.keys l.used (8 * l.eight) l.g

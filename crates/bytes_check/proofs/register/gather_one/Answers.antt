@@ -5,9 +5,9 @@ use Rattle.bytes_check.proofs.register.gather_one.Goals as goal
 
 pub overflow_add-result : goal.overflow_add-result
 overflow_add-result c =
-    omega (arith, c.requires.0.bytes c.args.i c.requires.1, c.requires.2.small, c.wide-byte.ensures.0)
+    omega (arith, c.requires.0.bytes c.args.i c.requires.1, c.requires.2.small, c.from-byte.ensures)
 
 pub returns : goal.returns
 returns c =
-    let wide = c.wide-byte in
-    gathered_more _ _ _ c.requires.1 _ _ (omega (arith, c.type_inv.keys c.args.i)) wide.ensures.0 (omega (arith, c.requires.0.bytes c.args.i c.requires.1, wide.ensures.0)) (omega arith) c.wrapping_sub_u64.ensures.value c.requires.2
+    let byte = c.from-byte.ensures in
+    gathered_more _ _ _ c.requires.1 _ _ (omega (arith, c.type_inv.keys c.args.i)) byte (omega (arith, c.requires.0.bytes c.args.i c.requires.1, byte)) (omega arith) (omega arith) c.requires.2

@@ -19,7 +19,7 @@ returns-then-r-keys c =
     let live : a.p ≢ 65535 = λ z. omega (arith, g.long, g.few, inside) in
     pass_made w a.keys.now used k a.s d a.below a.p pre b fits m a.most e _
     (c.key_fits.ensures ∙ live_fits w a.keys.now used k a.s d a.below a.p pre b fits m g q inside)
-    c.wrapping_add_u64-disc.ensures.value refl (rw (ne_eqb a.p 65535 live)) (rw (ne_eqb a.p 65535 live))
+    refl refl (rw (ne_eqb a.p 65535 live)) (rw (ne_eqb a.p 65535 live))
 
 pub returns-then-r-ne65535 : goal.returns-then-r-ne65535
 returns-then-r-ne65535 c =
@@ -28,7 +28,7 @@ returns-then-r-ne65535 c =
     let live = c.if-r-ne65535.true in
     λ w d pre b used g q k e τ dummy m. pass_made w a.keys.now used k a.s d a.below a.p pre b fits m a.most e _
     (record_free w (key_at a.keys.now) (in_use used) a.s.disc τ d a.p live (beyond_free used a.p (omega (arith, g.long, c.if-r-keys.false))))
-    c.wrapping_add_u64-disc.ensures.value refl (rw (ne_eqb a.p 65535 live)) (rw (ne_eqb a.p 65535 live))
+    refl refl (rw (ne_eqb a.p 65535 live)) (rw (ne_eqb a.p 65535 live))
 
 pub overflow_add-result : goal.overflow_add-result
 overflow_add-result c = omega (arith, c.requires)
@@ -40,4 +40,4 @@ returns c =
     let nil = c.if-r-ne65535.false in
     λ w d pre b used g q k e τ dummy m. pass_made w a.keys.now used k a.s d a.below a.p pre b fits m a.most e _
     (nil_fits w a.keys.now used k a.s d a.below a.p pre b fits m nil)
-    c.wrapping_add_u64-disc.ensures.value refl (rw (eq-eqb a.p 65535 nil)) (rw (eq-eqb a.p 65535 nil) (add-one _))
+    refl refl (rw (eq-eqb a.p 65535 nil)) (rw (eq-eqb a.p 65535 nil) (add-one _))

@@ -31,10 +31,10 @@ pub page_ok-count-requires : goal.page_ok-count-requires
 page_ok-count-requires t c = (leaves_pre (met_page c.requires c.enter.ensures c.if-not-enter.false)).within
 
 pub page_ok-loop-i-init : goal.page_ok-loop-i-init
-page_ok-loop-i-init t c = (row_start _ _ _ (c.wide-n.ensures.0 ∙ c.count.ensures) (met_marked (met_page c.requires c.enter.ensures c.if-not-enter.false)) (met_page c.requires c.enter.ensures c.if-not-enter.false).pre.carried, refl)
+page_ok-loop-i-init t c = (row_start _ _ _ (c.from-n.ensures ∙ c.count.ensures) (met_marked (met_page c.requires c.enter.ensures c.if-not-enter.false)) (met_page c.requires c.enter.ensures c.if-not-enter.false).pre.carried, refl)
 
 pub page_ok-depth-d-requires : goal.page_ok-depth-d-requires
-page_ok-depth-d-requires t c = let l = leaves_pre (met_page c.requires c.enter.ensures c.if-not-enter.false) in (l.within, entry_few c.args.h _ _ _ _ (c.wide-n.ensures.0 ∙ c.count.ensures) l.few c.loop-i-test.true)
+page_ok-depth-d-requires t c = let l = leaves_pre (met_page c.requires c.enter.ensures c.if-not-enter.false) in (l.within, entry_few c.args.h _ _ _ _ (c.from-n.ensures ∙ c.count.ensures) l.few c.loop-i-test.true)
 
 pub page_ok-shape_of-map-then-not-closes : goal.page_ok-shape_of-map-then-not-closes
 page_ok-shape_of-map-then-not-closes t c = c.loop-i.invariant.1 ∙ met_long (met_page c.requires c.enter.ensures c.if-not-enter.false)
@@ -43,7 +43,7 @@ pub page_ok-returns-then-not-closes : goal.page_ok-returns-then-not-closes
 page_ok-returns-then-not-closes t c = walked_row_no (met_page c.requires c.enter.ensures c.if-not-enter.false) one_fault (row_depth c.loop-i.invariant.0 c.loop-i-test.true _ c.depth-d.ensures (sym c.closes.ensures ∙ c.if-not-closes.true) _ one_fault)
 
 pub page_ok-child-child-requires : goal.page_ok-child-child-requires
-page_ok-child-child-requires t c = let l = leaves_pre (met_page c.requires c.enter.ensures c.if-not-enter.false) in (l.within, entry_few c.args.h _ _ _ _ (c.wide-n.ensures.0 ∙ c.count.ensures) l.few c.loop-i-test.true)
+page_ok-child-child-requires t c = let l = leaves_pre (met_page c.requires c.enter.ensures c.if-not-enter.false) in (l.within, entry_few c.args.h _ _ _ _ (c.from-n.ensures ∙ c.count.ensures) l.few c.loop-i-test.true)
 
 pub page_ok-child_ok-next-requires : goal.page_ok-child_ok-next-requires
 page_ok-child_ok-next-requires t c = let m = c.decreases in let l = c.if-level-eq0.false in let inv = c.loop-i.invariant in (omega (arith, m, l), (walk_on (met_page c.requires c.enter.ensures c.if-not-enter.false) _ _ inv.1 inv.0.turned.marked inv.0.turned.carried, omega (arith, l)))
