@@ -5,6 +5,7 @@ use mathlib.Core.List.{List}
 use Prim.Native.Nat.{ℕ, zero, suc, ◌+◌, ◌*◌, ◌/◌, ◌≤◌, ◌<◌}
 use native.Mathlib.Omega.{arith}
 use lib.Dec.{eqb}
+use Rattle.std.specs.Int.{from_bool}
 use lib.ListN.{length, get_or}
 use Rattle.leaf_list.proofs.Lists.{all_at}
 use Rattle.index_table.specs.Layout.{Ref, layout_of, page_bytes, ref_at}
@@ -15,9 +16,9 @@ use Rattle.table_search.specs.Places.{SeekPre, Stopped, Ends, LeafLow, place_in,
 use Rattle.table_search.proofs.Stops.{depth_before, depth_before_lem, read_entry}
 
 -- What a number is made of can be read off it.
-module _ (l : Leaf) (low : LeafLow l) (page_low : l.page.0 ≤ 65535) (k : ℕ) (thin_is : k ≡ cond l.thin 1 0) (k_low : k ≤ 1)
-    (r : ℕ) (is : r ≡ ((((k * 256 + l.before) * 256 + l.trail) * 256 + l.at) * 65536 + l.page.0) * 65536 + l.pointer) where
-  top_is : r / 72057594037927936 ≡ k
+module _ (l : Leaf) (low : LeafLow l) (page_low : l.page.0 ≤ 65535) 
+    (r : ℕ) (is : r ≡ ((((from_bool l.thin * 256 + l.before) * 256 + l.trail) * 256 + l.at) * 65536 + l.page.0) * 65536 + l.pointer) where
+  top_is : r / 72057594037927936 ≡ from_bool l.thin
   top_is = omega (arith, is, low.at, low.pointer, low.trail, low.before, page_low)
 
   pub leaf_numbered : LeafNumber l r
@@ -27,10 +28,10 @@ module _ (l : Leaf) (low : LeafLow l) (page_low : l.page.0 ≤ 65535) (k : ℕ) 
     page_is = omega (arith, is, low.pointer, page_low);
     trail_is = omega (arith, is, low.at, low.pointer, low.trail, page_low);
     before_is = omega (arith, is, low.at, low.pointer, low.trail, low.before, page_low);
-    thin_is = ap (λ (n : ℕ). eqb n 1) (top_is ∙ thin_is) ∙ go l.thin;
+    thin_is = ap (λ (n : ℕ). eqb n 1) (top_is) ∙ go l.thin;
   }
     where
-      go : (t : Bool) → eqb (cond t 1 0) 1 ≡ t
+      go : (t : Bool) → eqb (from_bool t) 1 ≡ t
       go true = refl
       go false = refl
 

@@ -15,5 +15,5 @@ nonzero_rem-result c = omega (arith, c.bit-first.ensures, pow_pos (c.args.w - c.
 pub overflow_add-result : goal.overflow_add-result
 overflow_add-result c = omega (arith, ahead_fits _ c.args.key _ _ c.requires.0 c.requires.1 c.if-w-b.false c.bit-first.ensures)
 
-pub returns : goal.returns
-returns c = ap (λ (m : ℕ). m + c.args.key % m) c.bit-first.ensures ∙ sym (some_ahead _ _ _ c.if-w-b.false)
+pub returns-else-w-b : goal.returns-else-w-b
+returns-else-w-b c = ap (λ (m : ℕ). m + c.args.key % m) c.bit-first.ensures ∙ sym (some_ahead _ _ _ c.if-w-b.false)

@@ -17,5 +17,5 @@ returns-then-p-eq0 c = whole _ _ _ c.if-p-eq0.true c.requires.2
 pub nonzero_rem-result : goal.nonzero_rem-result
 nonzero_rem-result c = omega (arith, c.bit.ensures, pow_pos (c.args.w - c.args.p))
 
-pub returns : goal.returns
-returns c = ap (λ (m : ℕ). c.args.key % m) c.bit.ensures
+pub returns-else-p-eq0 : goal.returns-else-p-eq0
+returns-else-p-eq0 c = ap (λ (m : ℕ). c.args.key % m) c.bit.ensures

@@ -5,5 +5,4 @@ use Rattle.table_search.proofs.leaf_number.Goals as goal
 
 pub returns : goal.returns
 returns c =
-    let one = c.one_if.ensures in
-    leaf_numbered c.args.leaf c.requires (omega (arith, c.wide16.ensures)) _ one.0 one.1 _ (omega (arith, c.wide16.ensures))
+    leaf_numbered c.args.leaf c.requires (omega arith) _ (omega (arith, c.from.ensures, c.from-2.ensures, c.from-3.ensures))

@@ -12,4 +12,4 @@ depth-requires c =
 pub returns : goal.returns
 returns c =
     let pre = c.requires in
-    depth_read pre c.number_pointer.ensures (c.deep.ensures ∙ c.depth.ensures)
+    depth_read pre c.number_pointer.ensures (c.from.ensures ∙ c.depth.ensures)

@@ -12,7 +12,7 @@ use Rattle.table_search.proofs.spot_of_two.Goals.{then-last-bits, else-last-bits
 pub spot_at-requires : goal.spot_at-requires
 spot_at-requires c =
     let pre = c.requires in
-    (pre.0, pre.1, elim c.if-last-bits.branch [ then-last-bits w ↦ omega arith | else-last-bits w ↦ omega arith ])
+    (pre.0, pre.1, elim c.if-last-bits.branch [ then-last-bits w ↦ rw w.passed-is (omega arith) | else-last-bits w ↦ rw w.passed-is (omega arith) ])
 
 pub returns : goal.returns
 returns c =
@@ -20,6 +20,6 @@ returns c =
     let of : Bool → Spot = λ (t : Bool). cond t (spot_at a.w a.bits a.trail a.disc a.at) (spot_at a.w a.bits a.trail (a.last + 1) (a.at + 1)) in
     c.spot_at.ensures
     ∙ elim c.if-last-bits.branch [
-      | then-last-bits w ↦ rw (w.passed-is, w.i-is) (sym (ap of (lt-leb a.bits a.last w.if-last-bits.true)))
-      | else-last-bits w ↦ rw (w.passed-is, w.i-is) (sym (ap of (le-leb a.bits a.last w.if-last-bits.false)))
+      | then-last-bits w ↦ rw w.passed-is (sym (ap of (lt-leb a.bits a.last w.if-last-bits.true)))
+      | else-last-bits w ↦ rw w.passed-is (sym (ap of (le-leb a.bits a.last w.if-last-bits.false)))
     ]
