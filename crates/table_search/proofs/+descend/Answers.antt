@@ -30,9 +30,6 @@ module _ (b : List ℕ) {n page key position e w : ℕ} (he : e ≡ entries_of b
       → Descended (width_of b) key position τ n few (entries_of b) (pages_at (layout_of (entries_of b)) b) page (number_leaf (pages_at (layout_of (entries_of b)) b) r)
   up r d = rw (he, hw) at d
 
-pub read-h-requires : goal.read-h-requires
-read-h-requires t c = omega (arith, c.requires.page_is.table)
-
 pub seek-s-requires : goal.seek-s-requires
 seek-s-requires t c =
     descend_seek (held _ c.read-h.ensures.entries (c.from-w.ensures ∙ c.read-h.ensures.width) c.requires.page_is)
