@@ -15,7 +15,7 @@ use Rattle.index_table.specs.Pages.{pages_at}
 use Rattle.index_table.proofs.PageRows.{length_refs}
 use Rattle.page_change.specs.Opening.{Opened}
 use Rattle.new_entries.specs.declared.entries.News.{News}
-use Rattle.new_entries.specs.Entries.{refs_for, Newly}
+use Rattle.new_entries.specs.Entries.{count_in, refs_for, Newly}
 use Rattle.new_entries.proofs.NewLeaves.{news_long}
 use Rattle.index_change.specs.Repaging.{room_for, OpenPre, opened_with}
 
@@ -27,8 +27,8 @@ room_tested index p n {e} {m} {a} {b} i c f g =
     rw (count, entries) refl
 
 -- Room is made, the entries are written there, and one record more is held.
-module _ {index : List ℕ} {p at key : ℕ} {n : News} (pre : OpenPre index p at key n) {h : Index} (i : IndexOf index h) {b : List ℕ} {place : ℕ} (o : Opened h.entries index p at n.count b place) {w : ℕ} (width : w ≡ h.width) where
-  pub write_pre : Newly w key n × (place + 3 * n.count ≤ length b)
+module _ {index : List ℕ} {p at key : ℕ} {n : News} (pre : OpenPre index p at key n) {h : Index} (i : IndexOf index h) {b : List ℕ} {place : ℕ} (o : Opened h.entries index p at (count_in n) b place) {w : ℕ} (width : w ≡ h.width) where
+  pub write_pre : Newly w key n × (place + 3 * count_in n ≤ length b)
   write_pre = (rw (width, i.width) pre.newly, omega (arith, o.long, o.inside))
 
   pub opened_written : {b₁ index₁ : List ℕ} → b₁ ≡ over b place (row_bytes 2 (refs_for w key n)) → index₁ ≡ with_held b₁ (h.held + 1) → index₁ ≡ opened_with index p at (refs_for (width_of index) key n)

@@ -23,7 +23,7 @@ use Rattle.page_change.specs.Opening.{Openable}
 use Rattle.table_search.specs.declared.Leaf.{Leaf}
 use Rattle.table_search.specs.Places.{NextPosition, Way}
 use Rattle.new_entries.specs.declared.entries.News.{News}
-use Rattle.new_entries.specs.Entries.{Newly}
+use Rattle.new_entries.specs.Entries.{count_in, Newly}
 
 -- The index table as the change of pages needs it: its tree is sound, and a record more may be held.
 pub record Changeable (index : List ℕ) (key : ℕ) : Type 0 where
@@ -99,7 +99,7 @@ room_for index p n = leb (length (pages_at (layout_of (entries_of index)) index 
 pub record OpenPre (index : List ℕ) (p at key : ℕ) (n : News) : Type 0 where
   pub header : 16 ≤ length index
   pub held : held_of index ≤ 65534
-  pub openable : Openable (entries_of index) index p at n.count
+  pub openable : Openable (entries_of index) index p at (count_in n)
   pub newly : Newly (width_of index) key n
 
 -- The index table with entries in the place of entry `at` of page p, and one record more held.

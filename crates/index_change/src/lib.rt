@@ -82,7 +82,7 @@ pub fn open_leaf(index: &mut [u8], page: PageNo, at: usize, key: u64, news: News
     ensures { index.new ≡ opened_with index.old page.0 at (refs_for (width_of index.old) key news) }
 {
     let head = index_table::header::read(index);
-    let place = page_change::open::open_page(index, head.entries, page, at, news.count);
+    let place = page_change::open::open_page(index, head.entries, page, at, news.count());
     new_entries::news::write_news(index, place, deep(head.width), key, news);
     index_write::write::set_held(index, head.held + 1);
 }

@@ -10,6 +10,7 @@ use native.Mathlib.Nat.{mod-lt, le_trans, lt_of_le_of_lt, lt_of_lt_of_le, div-le
 use lib.Count.{ones, ones_cat, ones-le}
 use lib.Dec.{ltb, leb, eqb}
 use lib.ListN.{length, set, take, drop, length-append, length-map}
+use Rattle.std.proofs.lemmas.Bool.{cases_lt}
 use lib.Pow.{pow_pos, pow_mono, pow-add, split, high, shr_lt, shr-shr}
 use borrow.Author.Tests.{lt-ltb, le-ltb, le-leb, ltb-true, ltb-false}
 use Rattle.leaf_list.specs.Keys.{Key, bits}
@@ -24,7 +25,7 @@ use Rattle.index_table.specs.Layout.{Ref, ref_bytes, row_bytes}
 use Rattle.index_table.proofs.PageRows.{length_row_bytes, row_bytes_append}
 use Rattle.table_search.specs.Places.{later, left_from, NextPosition}
 use Rattle.table_search.proofs.NextPositions.{drop_bits, last_bit}
-use Rattle.table_search.proofs.BitsAhead.{order, last_bits_low}
+use Rattle.table_search.proofs.BitsAhead.{last_bits_low}
 use Rattle.new_entries.specs.Entries.{ref_of}
 
 -- ---- the positions between two depths
@@ -163,7 +164,7 @@ count_from : (m i low to key j : ℕ) → low ≤ i → to + j ≡ suc (i + m) �
 count_from zero i low to key j h e =
     ap length (dummies_none low to i [] [] (omega arith))
     ∙ sym (ap ones (div-eq_of_lt (lt_of_lt_of_le (mod-lt key (pow_pos 0)) (pow_pos j))) ∙ ones_bit 0 (omega arith))
-count_from (suc m) i low to key j h e = go (order j m) (count_from m (suc i) low to key j (omega arith) (omega arith))
+count_from (suc m) i low to key j h e = go (cases_lt m j) (count_from m (suc i) low to key j (omega arith) (omega arith))
   where
     q : ℕ
     q = key / 2 ^ m % 2
@@ -171,14 +172,14 @@ count_from (suc m) i low to key j h e = go (order j m) (count_from m (suc i) low
     bit : q < 2
     bit = mod-lt (key / 2 ^ m) (omega arith)
 
-    go : (j ≤ m) ⊎ (m < j) → length (dummies low to (positions (suc i) (bits m key)) []) ≡ ones (key % 2 ^ m / 2 ^ j)
+    go : (m < j) ⊎ (j ≤ m) → length (dummies low to (positions (suc i) (bits m key)) []) ≡ ones (key % 2 ^ m / 2 ^ j)
         → length (dummies low to (positions i (bits (suc m) key)) []) ≡ ones (key % 2 ^ suc m / 2 ^ j)
-    go (inl g) ih =
+    go (inr g) ih =
         count_one low to i q (bits m key) bit h (omega arith)
         ∙ ap₂ ◌+◌ (sym (ones_bit q bit)) ih
         ∙ sym (ones_cat (m - j) q (key % 2 ^ m / 2 ^ j) (shr_lt (m - j) j (lt_of_lt_of_le (mod-lt key (pow_pos m)) (pow_mono (let s : m ≤ m - j + j = omega arith in s)))))
         ∙ ap ones (sym (bits_between key m j g))
-    go (inr g) ih =
+    go (inl g) ih =
         ap length (dummies_none low to i (bits (suc m) key) [] (omega arith))
         ∙ sym (ap ones (div-eq_of_lt (lt_of_lt_of_le (mod-lt key (pow_pos (suc m))) (pow_mono g))) ∙ ones_bit 0 (omega arith))
 

@@ -21,8 +21,9 @@ use Rattle.index_table.specs.Layout.{Fitting}
 use Rattle.index_table.specs.Pages.{record_of, leaf_of}
 use Rattle.index_table.proofs.Pointers.{record_nil, record_live}
 use Rattle.table_search.specs.declared.Leaf.{Leaf}
-use Rattle.new_entries.specs.Entries.{ref_of, entries_for, refs_for, DummiesPre, Newly, FoundPre, NewPre, NewPost, NewEntries}
+use Rattle.new_entries.specs.Entries.{ref_of, count_in, entries_for, refs_for, DummiesPre, Newly, FoundPre, NewPre, NewPost, NewEntries}
 use Rattle.new_entries.specs.declared.entries.News.{News}
+use Rattle.new_entries.specs.declared.entries.News.TheVariants.{Alone, Beside}
 use Rattle.new_entries.proofs.Dummies.{dummies_same}
 
 -- ---- new entries as they are stored
@@ -41,12 +42,9 @@ dummies_storable l b (p ∷ ps) rest h = go (ltb l p && ltb p b) (dummies_storab
     go false g = g
 
 news_storable : {w key : ℕ} {n : News} → Newly w key n → All Storable (entries_for w key n)
-news_storable {w} {key} {n} h = go n.alone
-  where
-    go : (t : Bool)
-        → All Storable (cond t (entry n.depth (some n.second) ∷ []) (dummies n.low n.high (positions 0 (bits w key)) (entry n.high (some n.first) ∷ entry n.depth (some n.second) ∷ [])))
-    go false = dummies_storable n.low n.high (positions 0 (bits w key)) (entry n.high (some n.first) ∷ entry n.depth (some n.second) ∷ []) (h.first_fits, (h.second_fits, tt))
-    go true = (h.second_fits, tt)
+news_storable {n = Alone last} h = (h.second_fits, tt)
+news_storable {w} {key} {n = Beside low first last c} h =
+    dummies_storable low first.depth (positions 0 (bits w key)) (entry first.depth (some first.pointer) ∷ entry last.depth (some last.pointer) ∷ []) (h.first_fits, (h.second_fits, tt))
 
 stored_back : (es : List Entry) → All Storable es → map (leaf_of 65535) (map ref_of es) ≡ es
 stored_back [] h = refl
@@ -67,18 +65,22 @@ pub news_fit : {w key : ℕ} {n : News} → Newly w key n → Fitting 2 (refs_fo
 news_fit {w} {key} {n} h = stored_fit (entries_for w key n) (news_storable h)
 
 -- and there are as many as the count says.
-pub news_long : {w key : ℕ} {n : News} → Newly w key n → length (refs_for w key n) ≡ n.count
+pub news_long : {w key : ℕ} {n : News} → Newly w key n → length (refs_for w key n) ≡ count_in n
 news_long {w} {key} {n} h = length-map (entries_for w key n) ref_of ∙ sym h.counted
+
+-- News of two leaves, field by field.
+abbrev pub beside : ℕ → ℕ → ℕ → ℕ → ℕ → ℕ → News
+beside low high x d y c = Beside low (record { depth = high; pointer = x }) (record { depth = d; pointer = y }) c
 
 -- A pair is its dummies, then two leaves.
 pub pair_refs : (w key low high x d y c : ℕ)
-    → refs_for w key (record { alone = false; low = low; high = high; first = x; depth = d; second = y; count = c }) ≡ map ref_of (dummies low high (positions 0 (bits w key)) []) ++ (high, x) ∷ (d, y) ∷ []
+    → refs_for w key (beside low high x d y c) ≡ map ref_of (dummies low high (positions 0 (bits w key)) []) ++ (high, x) ∷ (d, y) ∷ []
 pair_refs w key low high x d y c =
     ap (map ref_of) (sym (dummies_append low high (positions 0 (bits w key)) [] (entry high (some x) ∷ entry d (some y) ∷ [])))
     ∙ map-append ref_of (dummies low high (positions 0 (bits w key)) []) (entry high (some x) ∷ entry d (some y) ∷ [])
 
 pair_long : (w key low high x d y c : ℕ)
-    → length (entries_for w key (record { alone = false; low = low; high = high; first = x; depth = d; second = y; count = c })) ≡ length (dummies low high (positions 0 (bits w key)) []) + 2
+    → length (entries_for w key (beside low high x d y c)) ≡ length (dummies low high (positions 0 (bits w key)) []) + 2
 pair_long w key low high x d y c =
     ap length (sym (dummies_append low high (positions 0 (bits w key)) [] (entry high (some x) ∷ entry d (some y) ∷ [])))
     ∙ length-append (dummies low high (positions 0 (bits w key)) []) (entry high (some x) ∷ entry d (some y) ∷ [])
@@ -94,7 +96,7 @@ module _ {w key r old : ℕ} {leaf : Leaf} (pre : NewPre w key r old leaf) {b l 
 
   -- The first difference is above the leaf's depth.
   pub new_above : b < l → {n : ℕ} → n ≡ length (dummies b b (positions 0 (bits w key)) [])
-      → NewPost w key r old leaf (record { alone = false; low = b; high = b; first = leaf.pointer; depth = leaf.depth; second = r; count = n + 2 })
+      → NewPost w key r old leaf (beside b b leaf.pointer leaf.depth r (n + 2))
   new_above h {n} m =
       let none_between : dummies b b (positions 0 (bits w key)) (entry b (some leaf.pointer) ∷ entry leaf.depth (some r) ∷ []) ≡ entry b (some leaf.pointer) ∷ entry leaf.depth (some r) ∷ [] =
       dummies_same b (positions 0 (bits w key)) (entry b (some leaf.pointer) ∷ entry leaf.depth (some r) ∷ []) in
@@ -112,7 +114,7 @@ module _ {w key r old : ℕ} {leaf : Leaf} (pre : NewPre w key r old leaf) {b l 
   -- It is below: dummies, and the two leaves in key order.
   pub new_below : l ≤ b → l ≤ w → {n : ℕ} → n ≡ length (dummies l b (positions 0 (bits w key)) []) → (x y : ℕ) → x < 65535 → y < 65535
       → both_leaves (below (bits w key) (bits w old)) b leaf.depth r leaf.pointer [] ≡ entry b (some x) ∷ entry leaf.depth (some y) ∷ []
-      → NewPost w key r old leaf (record { alone = false; low = l; high = b; first = x; depth = leaf.depth; second = y; count = n + 2 })
+      → NewPost w key r old leaf (beside l b x leaf.depth y (n + 2))
   new_below h low {n} m x y x_Fits y_fits order =
       record {
         entries = λ key_of e. rw (live, e, ← difference, ← depth, le-ltb b l h) (ap (dummies l b (positions 0 (bits w key))) (sym order));
@@ -125,12 +127,6 @@ module _ {w key r old : ℕ} {leaf : Leaf} (pre : NewPre w key r old leaf) {b l 
         };
       }
 
-  -- The same, as the code names it.
-  pub new_named : {n low x y low' x' y' : ℕ} → low' ≡ low → x' ≡ x → y' ≡ y → n ≡ length (dummies low' b (positions 0 (bits w key)) [])
-      → (n ≡ length (dummies low b (positions 0 (bits w key)) []) → NewPost w key r old leaf (record { alone = false; low = low; high = b; first = x; depth = leaf.depth; second = y; count = n + 2 }))
-      → NewPost w key r old leaf (record { alone = false; low = low'; high = b; first = x'; depth = leaf.depth; second = y'; count = n + 2 })
-  new_named e f g m h = rw (e, f, g) (h (rw e at m))
-
   pub order_smaller : key < old → both_leaves (below (bits w key) (bits w old)) b leaf.depth r leaf.pointer [] ≡ entry b (some r) ∷ entry leaf.depth (some leaf.pointer) ∷ []
   order_smaller h = rw (below_bits w key old pre.narrow pre.other_narrow, lt-ltb key old h) refl
 
@@ -139,7 +135,7 @@ module _ {w key r old : ℕ} {leaf : Leaf} (pre : NewPre w key r old leaf) {b l 
 
 module _ {keys : List ℕ} {w key r : ℕ} {leaf : Leaf} (pre : FoundPre keys w key r leaf) where
   -- "a dummy that is met takes the record"
-  pub new_dummy : leaf.pointer ≡ 65535 → NewEntries keys w key r leaf (record { alone = true; low = 0; high = 0; first = 0; depth = leaf.depth; second = r; count = 1 })
+  pub new_dummy : leaf.pointer ≡ 65535 → NewEntries keys w key r leaf (Alone (record { depth = leaf.depth; pointer = r }))
   new_dummy e =
       record {
         entries = rw (record_nil e) refl;

@@ -1,5 +1,5 @@
 -- What stands in the place of the entry found once a key is put in (01, "Insertion (5.1)"), as the code makes it. Assumes nothing.
-use Rattle.std.specs.Prelude.{◌≡◌, ◌≢◌, cond, List, [], ◌∷◌, map, ℕ, suc, ◌^◌, ◌≤◌, ◌<◌, length}
+use Rattle.std.specs.Prelude.{◌≡◌, ◌≢◌, List, [], ◌∷◌, map, ℕ, suc, ◌^◌, ◌≤◌, ◌<◌, length}
 use Rattle.std.proofs.Math.Option.{none, some}
 use Rattle.leaf_list.specs.Keys.{Key, bits}
 use Rattle.leaf_list.specs.Entries.{Entry, entry}
@@ -12,6 +12,7 @@ use Rattle.index_table.specs.Layout.{Ref}
 use Rattle.index_table.specs.Pages.{record_of, leaf_of}
 use Rattle.table_search.specs.declared.Leaf.{Leaf}
 use Rattle.new_entries.specs.declared.entries.News.{News}
+use Rattle.new_entries.specs.declared.entries.News.TheVariants.{Alone, Beside}
 
 -- A row as entries of a leaf list.
 abbrev pub entries_in : Row → List Entry
@@ -24,9 +25,9 @@ ref_of (entry d (some r)) = (d, r)
 
 -- The entries that news says,
 abbrev pub entries_for : ℕ → ℕ → News → List Entry
-entries_for w key n =
-    cond n.alone (entry n.depth (some n.second) ∷ [])
-    (dummies n.low n.high (positions 0 (bits w key)) (entry n.high (some n.first) ∷ entry n.depth (some n.second) ∷ []))
+entries_for w key (Alone last) = entry last.depth (some last.pointer) ∷ []
+entries_for w key (Beside low first last n) =
+    dummies low first.depth (positions 0 (bits w key)) (entry first.depth (some first.pointer) ∷ entry last.depth (some last.pointer) ∷ [])
 
 -- and as they are stored.
 abbrev pub refs_for : ℕ → ℕ → News → List Ref
@@ -39,13 +40,40 @@ pub record DummiesPre (w key low high : ℕ) : Type 0 where
   pub low_inside : low ≤ w
   pub high_inside : high ≤ suc w
 
+-- How many entries news says there are,
+abbrev pub count_in : News → ℕ
+count_in (Alone last) = 1
+count_in (Beside low first last n) = n
+
+-- the depths between which the dummies stand, which are none for a leaf alone,
+abbrev pub low_in : News → ℕ
+low_in (Alone last) = 0
+low_in (Beside low first last n) = low
+
+abbrev pub high_in : News → ℕ
+high_in (Alone last) = 0
+high_in (Beside low first last n) = first.depth
+
+-- and the pointers of the first of two leaves and of the last, and its depth.
+abbrev pub first_in : News → ℕ
+first_in (Alone last) = 0
+first_in (Beside low first last n) = first.pointer
+
+abbrev pub second_in : News → ℕ
+second_in (Alone last) = last.pointer
+second_in (Beside low first last n) = last.pointer
+
+abbrev pub depth_in : News → ℕ
+depth_in (Alone last) = last.depth
+depth_in (Beside low first last n) = last.depth
+
 -- News that can be stored, with its count.
 pub record Newly (w key : ℕ) (n : News) : Type 0 where
-  pub between : DummiesPre w key n.low n.high
-  pub closing : n.depth ≤ w
-  pub first_fits : n.first < 65535
-  pub second_fits : n.second < 65535
-  pub counted : n.count ≡ length (entries_for w key n)
+  pub between : DummiesPre w key (low_in n) (high_in n)
+  pub closing : depth_in n ≤ w
+  pub first_fits : first_in n < 65535
+  pub second_fits : second_in n < 65535
+  pub counted : count_in n ≡ length (entries_for w key n)
 
 -- The entry found, a key of at most w bits and a free record.
 pub record FoundPre (keys : List ℕ) (w key r : ℕ) (leaf : Leaf) : Type 0 where

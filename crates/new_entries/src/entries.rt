@@ -3,20 +3,34 @@ ghost use Rattle.std.specs.Prelude.{◌≡◌, [], ◌≤◌, ◌<◌, length};
 ghost use Rattle.leaf_list.specs.Keys.{bits};
 ghost use Rattle.leaf_list.specs.Insertion.{dummies};
 ghost use Rattle.leaf_list.specs.Search.{positions};
-ghost use Rattle.new_entries.specs.Entries.{DummiesPre, FoundPre, NewPre, NewPost, NewEntries};
+ghost use Rattle.new_entries.specs.Entries.{count_in, DummiesPre, FoundPre, NewPre, NewPost, NewEntries};
 
+use page_tree::Entry;
 use table_search::Leaf;
 
-// New entries: a dummy for each one-bit p of the key with low < p < high, the leaf (high, first) and the leaf (depth, second); or the last alone.
+// The new entries: the leaf of the new record alone; or a dummy for each one-bit p of the key with low < p < first.depth, then the leaves first and
+// second, count entries.
 #[derive(Clone, Copy)]
-pub struct News {
-    pub alone: bool,
-    pub low: u64,
-    pub high: u64,
-    pub first: u32,
-    pub depth: u64,
-    pub second: u32,
-    pub count: usize,
+pub enum News {
+    Alone(Entry),
+    Beside {
+        low: u64,
+        first: Entry,
+        second: Entry,
+        count: usize,
+    },
+}
+
+impl News {
+    // Returns how many entries there are.
+    pub fn count(self) -> usize
+        ensures { result ≡ count_in self }
+    {
+        match self {
+            News::Alone(_) => 1,
+            News::Beside { count, .. } => count,
+        }
+    }
 }
 
 // How many one-bits p of the key there are with low < p < high.
@@ -25,7 +39,7 @@ fn count_dummies(w: u64, key: u64, low: u64, high: u64) -> usize
     ensures { (result ≡ length (dummies low high (positions 0 (bits w key)) [])) × (result ≤ w) }
 {
     let behind = table_search::last_bits(w, key, low);
-    u64::count_ones(behind >> (w - high) >> 1) as usize
+    (behind >> (w - high) >> 1).count_ones() as usize
 }
 
 // What stands for a leaf of another key, old: where they differ above the leaf's depth, no dummy and the new leaf second; else the leaf of the smaller
@@ -36,26 +50,24 @@ fn beside_leaf(w: u64, key: u64, record: u32, old: u64, leaf: Leaf) -> News
 {
     let b = leaf_list::first_difference(w, key, old);
     let l = leaf_list::leaf_depth(leaf.trail, leaf.depth);
-    let mut low = l;
-    let mut first = leaf.pointer;
-    let mut second = record;
-    if key < old {
-        first = record;
-        second = leaf.pointer;
-    }
-    if b < l {
-        low = b;
-        first = leaf.pointer;
-        second = record;
-    }
+    let (low, first, second) = if b < l {
+        (b, leaf.pointer, record)
+    } else if key < old {
+        (l, record, leaf.pointer)
+    } else {
+        (l, leaf.pointer, record)
+    };
     let n = count_dummies(w, key, low, b);
-    News {
-        alone: false,
+    News::Beside {
         low,
-        high: b,
-        first,
-        depth: leaf.depth,
-        second,
+        first: Entry {
+            depth: b as u8,
+            pointer: first,
+        },
+        second: Entry {
+            depth: leaf.depth as u8,
+            pointer: second,
+        },
         count: n + 2,
     }
 }
@@ -66,15 +78,10 @@ pub fn new_entries(keys: &[u64], w: u64, key: u64, record: u32, leaf: Leaf) -> N
     ensures { NewEntries keys.now w key «record» leaf result }
 {
     let Some(other) = index_table::layout::answer_of(leaf.pointer) else {
-        return News {
-            alone: true,
-            low: 0,
-            high: 0,
-            first: 0,
-            depth: leaf.depth,
-            second: record,
-            count: 1,
-        };
+        return News::Alone(Entry {
+            depth: leaf.depth as u8,
+            pointer: record,
+        });
     };
     let at = other.0 as usize;
     beside_leaf(w, key, record, keys[at], leaf)

@@ -6,7 +6,7 @@ ghost use Rattle.leaf_list.specs.Search.{positions};
 ghost use Rattle.page_tree.specs.Row.{row_of, Holds};
 ghost use Rattle.byte_moves.specs.Over.{over};
 ghost use Rattle.index_table.specs.Layout.{row_bytes};
-ghost use Rattle.new_entries.specs.Entries.{DummiesPre, ref_of, refs_for, Newly};
+ghost use Rattle.new_entries.specs.Entries.{count_in, DummiesPre, ref_of, refs_for, Newly};
 
 use crate::entries::News;
 use index_write::write::write_entry;
@@ -29,16 +29,22 @@ fn write_dummies(index: &mut [u8], at: usize, w: u64, key: u64, low: u64, high: 
 
 // New entries, from a place on.
 pub fn write_news(index: &mut [u8], at: usize, w: u64, key: u64, news: News)
-    requires { Newly w key news × (at + 3 * news.count ≤ length index.old) }
+    requires { Newly w key news × (at + 3 * count_in news ≤ length index.old) }
     ensures { index.new ≡ over index.old at (row_bytes 2 (refs_for w key news)) }
 {
-    if news.alone {
-        write_entry(index, at, news.depth as u8, news.second);
-        return;
+    match news {
+        News::Alone(entry) => write_entry(index, at, entry.depth, entry.pointer),
+        News::Beside {
+            low,
+            first,
+            second,
+            ..
+        } => {
+            let next = write_dummies(index, at, w, key, low, u64::from(first.depth));
+            write_entry(index, next, first.depth, first.pointer);
+            write_entry(index, next + 3, second.depth, second.pointer);
+        }
     }
-    let next = write_dummies(index, at, w, key, news.low, news.high);
-    write_entry(index, next, news.high as u8, news.first);
-    write_entry(index, next + 3, news.depth as u8, news.second);
 }
 
 // A dummy for each one-bit of the key between low and high, behind the entries of a row.
@@ -62,12 +68,19 @@ fn push_dummies(row: Row, w: u64, key: u64, low: u64, high: u64) -> Row
 // New entries as a row.
 pub fn row_of(w: u64, key: u64, news: News) -> Row
     requires { Newly w key news }
-    ensures { Holds result news.count (refs_for w key news) }
+    ensures { Holds result (count_in news) (refs_for w key news) }
 {
-    if news.alone {
-        return Row::new().push(news.depth as u8, news.second);
+    match news {
+        News::Alone(entry) => Row::new().push(entry.depth, entry.pointer),
+        News::Beside {
+            low,
+            first,
+            second,
+            ..
+        } => {
+            let row = push_dummies(Row::new(), w, key, low, u64::from(first.depth));
+            row.push(first.depth, first.pointer)
+                .push(second.depth, second.pointer)
+        }
     }
-    let row = push_dummies(Row::new(), w, key, news.low, news.high);
-    row.push(news.high as u8, news.first)
-        .push(news.depth as u8, news.second)
 }

@@ -30,7 +30,7 @@ use Rattle.index_table.proofs.SoundTables.{keys_narrow, in_use_inside, herd_narr
 use Rattle.table_search.specs.Places.{left_from, NextPosition}
 use Rattle.table_find.specs.Answers.{with_count}
 use Rattle.table_list.specs.Ranges.{records_between}
-use Rattle.table_list.specs.Listings.{State, begun, visited, visit_all, leaves_from, Inside, FromPre, FromListed, Listed}
+use Rattle.table_list.specs.Listings.{State, begun, count_in, more_in, visited, visit_all, leaves_from, Inside, FromPre, FromListed, Listed}
 use Rattle.table_find.proofs.FoundLeaves.{live_used, descend_start}
 use Rattle.table_list.proofs.Visits.{visit_records, visit_live, records_below, records_herd, Filled}
 use Rattle.table_list.proofs.PlaceLeaves.{leaves_from_drop}
@@ -98,7 +98,7 @@ module _ {index keys used : List ℕ} (s : Sound index keys used) where
 
 -- A filled slice is the list's, and so is its answer.
 filled_listed : (a b : ℕ) (herd : Herd) (before : List ℕ) (s : State) → Filled [] before (records_between a b herd) s
-    → Listed a b herd before (with_count s.1.count s.1.more) s.0
+    → Listed a b herd before (with_count (count_in s.1) (more_in s.1)) s.0
 filled_listed a b herd before s f =
     record {
       answered = λ j. with_count ((f.count ∙ zero-add (min (length (records_between a b herd)) (length before))) j) (f.more j);
@@ -119,7 +119,7 @@ module _ {index keys used : List ℕ} (s : Sound index keys used) (h : Index) (x
 
   -- and ends with the list's answer and slice.
   pub list_end : (b position : ℕ) (before : List ℕ) (r : State) → NextPosition w a 0 position → FromListed index keys h.entries level h.root.0 w a b position 0 before r
-      → Listed a b (herd_of keys used) before (with_count r.1.count r.1.more) r.0
+      → Listed a b (herd_of keys used) before (with_count (count_in r.1) (more_in r.1)) r.0
   list_end b position before r p d =
       filled_listed a b (herd_of keys used) before r
       (subst (Filled [] before (records_between a b (herd_of keys used))) (sym moved.walked)

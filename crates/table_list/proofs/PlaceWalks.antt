@@ -14,9 +14,10 @@ use Rattle.index_table.specs.Pages.{pages_at, node_at}
 use Rattle.table_search.specs.declared.Spot.{Spot}
 use Rattle.table_search.specs.Places.{left_from, Stopped}
 use Rattle.table_search.proofs.Descents.{leaves_at, descend_walk, descend_down}
-use Rattle.table_list.specs.declared.Listing.{Listing}
+use Rattle.std.specs.declared.ops.ControlFlow.TheVariants.{Break}
+use Rattle.table_list.specs.declared.End.{End}
 use Rattle.table_list.specs.Listings.{State, begun, visited, visit_all, leaves_from, leaves_right, Inside, RowPre, RowListed, FromPre, FromListed}
-use Rattle.table_list.proofs.RowWalks.{pointer_read}
+use Rattle.table_list.proofs.RowWalks.{pointer_read, row_over}
 
 -- A page that covers the place is a page whose entries can be walked.
 pub from_row : {index keys : List ℕ} {e n page w a position : ℕ} → FromPre index keys e n page w a position → RowPre index keys e n page
@@ -34,11 +35,11 @@ place_parted {n = n} pre s stop = descend_walk pre.place s stop (λ bs τ x xs. 
 
 -- On level 0 the entry found is the first that is visited.
 pub from_leaf : {index keys : List ℕ} {e page w a position trail b : ℕ} (level : ℕ) → level ≡ 0 → (pre : FromPre index keys e level page w a position) (s : Spot)
-    → Stopped w a position trail (pages_at (layout_of e) index page) s → (out : List ℕ) (l : Listing) → l ≡ begun → (r : State) → RowListed index keys e level page s.at a b (out, l) r
+    → Stopped w a position trail (pages_at (layout_of e) index page) s → (out : List ℕ) (r : State) → RowListed index keys e level page s.at a b (out, begun) r
     → FromListed index keys e level page w a b position trail out r
-from_leaf (suc n) h pre s stop out l g r d = absurd (omega arith)
-from_leaf {index} {keys} {e} {page} {w} {a} {position} {trail} {b} zero h pre s stop out l g r d =
-    record { walked = d.walked ∙ ap (λ (m : Listing). visit_all keys a b (out, m) (leaves_right index e 0 page s.at)) g ∙ ap (visit_all keys a b (out, begun)) (front ∙ sym (place_parted pre s stop)) }
+from_leaf (suc n) h pre s stop out r d = absurd (omega arith)
+from_leaf {index} {keys} {e} {page} {w} {a} {position} {trail} {b} zero h pre s stop out r d =
+    record { walked = d.walked ∙ ap (visit_all keys a b (out, begun)) (front ∙ sym (place_parted pre s stop)) }
   where
     front : leaves_right index e 0 page s.at
         ≡ node_at 65535 0 (pages_at (layout_of e) index) (get_or (pages_at (layout_of e) index page) s.at (0, 0)) ∷ leaves_right index e 0 page (suc s.at)
@@ -90,3 +91,11 @@ from_right {index} {keys} {e} {page} {w} {a} {position} {trail} {b} (suc n) k pr
         (subst (λ (m : ℕ). FromListed index keys e m below w a b s.position s.trail out mid) lower f).walked
         ∙ ap (λ (p : ℕ). visit_all keys a b (out, begun) (leaves_from (suc n) (left_from w a s.position) s.trail (node_at 65535 (suc n) (pages_at (layout_of e) index) (0, p))))
         (pointer_read (layout_of e) index page s.at below q stop.inside)
+
+-- Where the list ended in the child, nothing to its right is visited.
+pub from_over : {index keys : List ℕ} {e page w a position trail b : ℕ} (level : ℕ) → (level ≡ 0 → ⊥) → (pre : FromPre index keys e level page w a position) (s : Spot)
+    → Stopped w a position trail (pages_at (layout_of e) index page) s → (below : ℕ) → below ≡ (ref_at (layout_of e) (page_bytes (layout_of e) index page) s.at).1
+    → (out : List ℕ) (r : State) {end : End} → r.1 ≡ Break end → FromListed index keys e (level - 1) below w a b s.position s.trail out r
+    → FromListed index keys e level page w a b position trail out r
+from_over {index} {keys} {e} {page} {b = b} level k pre s stop below q out r over f =
+    from_right level k pre s stop below q out r r f (row_over index keys e level page (s.at + 1) _ b over)

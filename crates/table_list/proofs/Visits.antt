@@ -14,9 +14,10 @@ use Rattle.leaf_list.specs.Entries.{Entry, entry, pointer_of, live_records}
 use Rattle.leaf_list.specs.Herd.{Herd, Above, Sorted, KeysOf, records_of}
 use Rattle.leaf_list.specs.Register.{key_at}
 use Rattle.leaf_list.proofs.Lists.{All}
-use Rattle.table_list.specs.declared.Listing.{Listing}
+use Rattle.std.specs.declared.ops.ControlFlow.TheVariants.{Break}
+use Rattle.table_list.specs.declared.End.{End}
 use Rattle.table_list.specs.Ranges.{between, records_between, list_slice}
-use Rattle.table_list.specs.Listings.{State, going, ended, full, written, met, visited, visit_all}
+use Rattle.table_list.specs.Listings.{State, Listing, going, ended, full, count_in, more_in, written, met, visited, visit_all}
 
 -- No key above b lies from a to b.
 between_above : (a b k : ℕ) (s : Herd) → b ≤ k → Above k s → between a b s ≡ []
@@ -30,11 +31,11 @@ between_above a b k (x ∷ s) h g = rw (lt-leb x.0 b (omega (arith, g.0))) (step
 -- What was made of the slice xs ++ ys, where xs is written, with the records R to come.
 pub record Filled (xs ys R : List ℕ) (s : State) : Type 0 where
   pub slice : s.0 ≡ xs ++ list_slice R ys
-  pub count : s.1.count ≡ length xs + min (length R) (length ys)
-  pub more : s.1.more ≡ ltb (length ys) (length R)
+  pub count : count_in s.1 ≡ length xs + min (length R) (length ys)
+  pub more : more_in s.1 ≡ ltb (length ys) (length R)
 
 -- Nothing more is written.
-filled_none : (xs ys : List ℕ) (l : Listing) → l.count ≡ length xs → l.more ≡ false → Filled xs ys [] (xs ++ ys, l)
+filled_none : (xs ys : List ℕ) (l : Listing) → count_in l ≡ length xs → more_in l ≡ false → Filled xs ys [] (xs ++ ys, l)
 filled_none xs ys l e f = record { slice = rw (take-nil (length ys)); count = omega arith; more = f ∙ sym (le-ltb (length ys) 0 (omega arith)) }
 
 -- Nothing more can be written.
@@ -63,18 +64,18 @@ module _ (keys : List ℕ) (a b : ℕ) where
   visit_live s (entry d (some r) ∷ es) = visit_live (visited keys a b s (some r)) es
 
   -- A list that is over stays as it is.
-  visited_over : (s : State) (o : Option ℕ) → s.1.over ≡ true → visited keys a b s o ≡ s
+  visited_over : (s : State) (o : Option ℕ) {end : End} → s.1 ≡ Break end → visited keys a b s o ≡ s
   unfolding visited
   visited_over s none h = refl
-  visited_over s (some r) h = rw h
+  visited_over s (some r) h = rw h refl
 
   -- So over any entries,
-  pub visit_over : (s : State) (es : List Entry) → s.1.over ≡ true → visit_all keys a b s es ≡ s
+  pub visit_over : (s : State) (es : List Entry) {end : End} → s.1 ≡ Break end → visit_all keys a b s es ≡ s
   visit_over s [] h = refl
   visit_over s (e ∷ es) h = rw (visited_over s (pointer_of e) h) (visit_over s es h)
 
   -- and over any records.
-  records_over : (s : State) (rs : List ℕ) → s.1.over ≡ true → visit_records s rs ≡ s
+  records_over : (s : State) (rs : List ℕ) {end : End} → s.1 ≡ Break end → visit_records s rs ≡ s
   records_over s [] h = refl
   records_over s (r ∷ rs) h = rw (visited_over s (some r) h) (records_over s rs h)
 
@@ -105,7 +106,7 @@ module _ (keys : List ℕ) (a b : ℕ) where
   unfolding visited
   records_herd [] o g xs ys = filled_none xs ys (going (length xs)) refl refl
   records_herd (x ∷ s) o g xs ys =
-      subst (λ (k : ℕ). Filled xs ys (records_between a b (x ∷ s)) (visit_records (met a b k (xs ++ ys, going (length xs)) x.1) (records_of s))) (sym g.0)
+      subst (λ (k : ℕ). Filled xs ys (records_between a b (x ∷ s)) (visit_records (met a b k (xs ++ ys) x.1 (length xs)) (records_of s))) (sym g.0)
       (low (ltb x.0 a) refl (records_herd s o.1 g.1))
     where
       high : (t : Bool) → ltb b x.0 ≡ t → a ≤ x.0 → Fills s (records_between a b s)

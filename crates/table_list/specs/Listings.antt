@@ -1,5 +1,5 @@
 -- A list under way: what is done at each entry on level 0, and which entries are walked. Assumes nothing.
-use Rattle.std.specs.Prelude.{◌≡◌, ◌≢◌, true, false, cond, ℕ, zero, suc, ◌≤◌, ◌<◌, ltb, length, set, drop}
+use Rattle.std.specs.Prelude.{◌≡◌, ◌≢◌, Bool, true, false, cond, ℕ, zero, suc, ◌≤◌, ◌<◌, ltb, length, set, drop}
 use Rattle.std.proofs.Math.Option.{Option, none, some}
 use mathlib.Core.List.{List, [], ◌∷◌, ◌++◌, map, foldl}
 use Rattle.leaf_list.specs.Entries.{Entry, pointer_of}
@@ -13,10 +13,16 @@ use Rattle.index_table.specs.Pages.{pages_at, node_at}
 use Rattle.index_table.specs.Soundness.{SoundBelow}
 use Rattle.table_search.specs.Places.{left_from, DescendPre}
 use Rattle.table_find.specs.declared.answer.Answer.{Answer}
-use Rattle.table_list.specs.declared.Listing.{Listing}
+use Rattle.std.specs.declared.ops.ControlFlow.{ControlFlow}
+use Rattle.std.specs.declared.ops.ControlFlow.TheVariants.{Continue, Break}
+use Rattle.table_list.specs.declared.End.{End}
 use Rattle.table_list.specs.Ranges.{records_between, listed, list_slice}
 
 -- ---- one entry after the other
+
+-- How far a list has come: how many records are written, where it goes on, or its end.
+abbrev pub Listing : Type 0
+Listing = ControlFlow End ℕ
 
 -- The lent slice, and how far the list has come.
 abbrev pub State : Type 0
@@ -24,32 +30,47 @@ State = List ℕ × Listing
 
 -- n records are written, and the list goes on;
 abbrev pub going : ℕ → Listing
-going n = record { count = n; more = false; over = false }
+going n = Continue n
 
 -- it met a key above the upper end;
 abbrev pub ended : ℕ → Listing
-ended n = record { count = n; more = false; over = true }
+ended n = Break (record { count = n; more = false })
 
 -- it met one record more, and the slice was full.
 abbrev pub full : ℕ → Listing
-full n = record { count = n; more = true; over = true }
+full n = Break (record { count = n; more = true })
 
 -- Nothing is written yet.
 abbrev pub begun : Listing
 begun = going 0
 
+-- How many records are written, and whether one more was met.
+abbrev pub count_in : Listing → ℕ
+count_in (Continue n) = n
+count_in (Break end) = end.count
+
+abbrev pub more_in : Listing → Bool
+more_in (Continue n) = false
+more_in (Break end) = end.more
+
+-- What f makes of the records written, or s where the list has ended.
+abbrev pub while_going : Listing → State → (ℕ → State) → State
+while_going (Continue n) s f = f n
+while_going (Break end) s f = s
+
 -- "as many as the lent slice holds": a record with a key from a to b is written where there is room.
 abbrev pub written : List ℕ → ℕ → ℕ → State
 written out n r = cond (ltb n (length out)) (set out n r, going (suc n)) (out, full n)
 
--- "for keys from a to b inclusive, in key order", a record that is met with its key: a key below a is passed, and one above b ends the list.
-abbrev pub met : ℕ → ℕ → ℕ → State → ℕ → State
-met a b key s r = cond (ltb key a) s (cond (ltb b key) (s.0, ended s.1.count) (written s.0 s.1.count r))
+-- "for keys from a to b inclusive, in key order", a record that is met with its key once n are written: a key below a is passed, and one above b ends
+-- the list.
+abbrev pub met : ℕ → ℕ → ℕ → List ℕ → ℕ → ℕ → State
+met a b key out r n = cond (ltb key a) (out, going n) (cond (ltb b key) (out, ended n) (written out n r))
 
 -- An entry that points at a record or at none; nothing is done once the list is over.
 unfoldable pub visited : List ℕ → ℕ → ℕ → State → Option ℕ → State
 visited keys a b s none = s
-visited keys a b s (some r) = cond s.1.over s (met a b (key_at keys r) s r)
+visited keys a b s (some r) = while_going s.1 s (met a b (key_at keys r) s.0 r)
 
 -- Entries from left to right.
 abbrev pub visit_all : List ℕ → ℕ → ℕ → State → List Entry → State
@@ -73,10 +94,9 @@ Inside keys (some r) = r < length keys
 
 -- ---- contracts
 
--- The list goes on, and a stored pointer that is not NIL is a record of the register.
-pub record VisitPre (keys : List ℕ) (stored : ℕ) (l : Listing) : Type 0 where
+-- A stored pointer that is not NIL is a record of the register.
+pub record VisitPre (keys : List ℕ) (stored : ℕ) : Type 0 where
   pub inside : stored ≢ 65535 → stored < length keys
-  pub goes_on : l.over ≡ false
 
 -- A sound page of level n, whose live entries on level 0 are records of the register.
 pub record RowPre (index keys : List ℕ) (e n page : ℕ) : Type 0 where

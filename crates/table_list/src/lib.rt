@@ -6,66 +6,50 @@ ghost use Rattle.leaf_list.specs.Register.{herd_of};
 ghost use Rattle.index_table.specs.Header.{width_of};
 ghost use Rattle.index_table.specs.Pages.{record_of};
 ghost use Rattle.index_table.specs.Soundness.{Sound};
-ghost use Rattle.table_list.specs.Listings.{begun, visited, VisitPre, RowPre, RowListed, FromPre, FromListed, Listed};
+ghost use Rattle.table_list.specs.Listings.{going, visited, VisitPre, RowPre, RowListed, FromPre, FromListed, Listed};
 
 use index_table::layout::{PageNo, answer_of, child, count, pointer};
+use std::ops::ControlFlow::{self, Break, Continue};
 use table_find::answer::Answer;
 use table_search::seek;
 
-// How far a list has come: the records written, whether one more was met that found no room, and whether nothing further is to be met.
+// What a list comes to where it ends before the entries do: the records written, and whether one more was met that found no room.
 #[derive(Clone, Copy)]
-struct Listing {
+struct End {
     pub count: usize,
     pub more: bool,
-    pub over: bool,
 }
 
-impl Listing {
-    fn begun() -> Listing
-        ensures { result ≡ begun }
-    {
-        Listing {
-            count: 0,
-            more: false,
-            over: false,
-        }
-    }
-}
+// How far a list has come: the records written, where it goes on, or its end.
+type Listing = ControlFlow<End, usize>;
 
-// An entry on level 0: a record with a key from a to b is written, or is one more where the slice is full.
-fn visit(keys: &[u64], stored: u32, a: u64, b: u64, out: &mut [u32], listing: Listing) -> Listing
-    requires { VisitPre keys.now stored listing }
-    ensures { (out.new, result) ≡ visited keys.now a b (out.old, listing) (record_of 65535 stored) }
+// An entry on level 0: a record with a key from a to b is written behind those written, or is one more where the slice is full.
+fn visit(keys: &[u64], stored: u32, a: u64, b: u64, out: &mut [u32], written: usize) -> Listing
+    requires { VisitPre keys.now stored }
+    ensures { (out.new, result) ≡ visited keys.now a b (out.old, going written) (record_of 65535 stored) }
 {
     let Some(record) = answer_of(stored) else {
-        return listing;
+        return Continue(written);
     };
     let at = record.0 as usize;
     let key = keys[at];
     if key < a {
-        return listing;
+        return Continue(written);
     }
-    let written = listing.count;
     if key > b {
-        return Listing {
+        return Break(End {
             count: written,
             more: false,
-            over: true,
-        };
+        });
     }
     if written >= out.len() {
-        return Listing {
+        return Break(End {
             count: written,
             more: true,
-            over: true,
-        };
+        });
     }
     out[written] = record.0;
-    Listing {
-        count: written + 1,
-        more: false,
-        over: false,
-    }
+    Continue(written + 1)
 }
 
 // The entries of a page of level 0, from one of them on.
@@ -78,22 +62,16 @@ fn list_leaves(
     a: u64,
     b: u64,
     out: &mut [u32],
-    listing: Listing,
+    begun: usize,
 ) -> Listing
     requires { RowPre index.now keys.now e 0 page.0 }
-    ensures { RowListed index.now keys.now e 0 page.0 from a b (out.old, listing) (out.new, result) }
+    ensures { RowListed index.now keys.now e 0 page.0 from a b (out.old, going begun) (out.new, result) }
 {
-    let n = index_table::layout::wide(count(index, e, page));
-    let mut l = listing;
-    let mut i = from;
-    while i < n {
-        if l.over {
-            return l;
-        }
-        l = visit(keys, pointer(index, e, page, i), a, b, out, l);
-        i += 1;
+    let mut written = begun;
+    for i in from..usize::from(count(index, e, page)) {
+        written = visit(keys, pointer(index, e, page, i), a, b, out, written)?;
     }
-    l
+    Continue(written)
 }
 
 // All below a page, from one of its entries on.
@@ -107,26 +85,20 @@ fn list_row(
     a: u64,
     b: u64,
     out: &mut [u32],
-    listing: Listing,
+    begun: usize,
 ) -> Listing
     requires { RowPre index.now keys.now e level page.0 }
-    ensures { RowListed index.now keys.now e level page.0 from a b (out.old, listing) (out.new, result) }
+    ensures { RowListed index.now keys.now e level page.0 from a b (out.old, going begun) (out.new, result) }
 {
     if level == 0 {
-        return list_leaves(index, keys, e, page, from, a, b, out, listing);
+        return list_leaves(index, keys, e, page, from, a, b, out, begun);
     }
-    let n = index_table::layout::wide(count(index, e, page));
-    let mut l = listing;
-    let mut i = from;
-    while i < n {
-        if l.over {
-            return l;
-        }
+    let mut written = begun;
+    for i in from..usize::from(count(index, e, page)) {
         let below = child(index, e, page, i);
-        l = list_row(index, keys, e, level - 1, below, 0, a, b, out, l);
-        i += 1;
+        written = list_row(index, keys, e, level - 1, below, 0, a, b, out, written)?;
     }
-    l
+    Continue(written)
 }
 
 // From a's place below a page on: the entry that covers a is gone into, then those to its right are walked whole.
@@ -149,10 +121,10 @@ fn list_from(
     let s = seek(index, e, page, w, a, position, trail);
     let at = s.at;
     if level == 0 {
-        return list_row(index, keys, e, level, page, at, a, b, out, Listing::begun());
+        return list_row(index, keys, e, level, page, at, a, b, out, 0);
     }
     let below = child(index, e, page, at);
-    let l = list_from(
+    let written = list_from(
         index,
         keys,
         e,
@@ -164,8 +136,8 @@ fn list_from(
         s.position,
         s.trail,
         out,
-    );
-    list_row(index, keys, e, level, page, at + 1, a, b, out, l)
+    )?;
+    list_row(index, keys, e, level, page, at + 1, a, b, out, written)
 }
 
 // The records of the keys from a to b.
@@ -174,10 +146,13 @@ pub fn list_held(index: &[u8], keys: &[u64], used: &[u8], a: u64, b: u64, out: &
     ensures { Listed a b (herd_of keys.now used.now) out.old result out.new }
 {
     let h = index_table::header::read(index);
-    let w = index_table::layout::deep(h.width);
+    let w = u64::from(h.width);
     let e = h.entries;
     let level = index_table::layout::level(index, e, h.root);
     let position = table_search::next_position(w, a, 0);
-    let l = list_from(index, keys, e, level, h.root, w, a, b, position, 0, out);
-    Answer::with_count(l.count as u64, l.more)
+    let (count, more) = match list_from(index, keys, e, level, h.root, w, a, b, position, 0, out) {
+        Continue(count) => (count, false),
+        Break(end) => (end.count, end.more),
+    };
+    Answer::with_count(count as u64, more)
 }

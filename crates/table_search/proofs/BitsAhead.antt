@@ -5,17 +5,11 @@ use Prim.Native.Nat.{ℕ, suc, ◌+◌, ◌-◌, ◌%◌, ◌^◌, ◌≤◌, �
 use native.Mathlib.Omega.{arith}
 use native.Mathlib.Nat.{mod-lt, eq-zero-or-pos, lt_of_lt_of_le, mul_comm, two-mul, pow-suc}
 use lib.Count.{count_leading_zeros, leading_of_zero}
+use Rattle.std.proofs.lemmas.Bool.{cases_lt}
 use lib.Pow.{pow_pos, pow_mono}
 use borrow.Author.Tests.{le-leb, lt-leb}
 use Rattle.table_search.specs.Places.{ahead, first_position, NextPosition}
 use Rattle.table_search.proofs.NextPositions.{next_none, next_some}
-
-pub order : (a b : ℕ) → (a ≤ b) ⊎ (b < a)
-order a b = go (eq-zero-or-pos (a - b))
-  where
-    go : (a - b ≡ 0) ⊎ (0 < a - b) → (a ≤ b) ⊎ (b < a)
-    go (inl h) = inl (omega arith)
-    go (inr h) = inr (omega arith)
 
 pub double : (n : ℕ) → 2 ^ suc n ≡ 2 ^ n + 2 ^ n
 double n = pow-suc 2 n ∙ mul_comm (2 ^ n) 2 ∙ two-mul (2 ^ n)
@@ -28,24 +22,20 @@ pub none_ahead : (w key b : ℕ) → w < b → ahead w key b ≡ 0
 none_ahead w key b h = rw (lt-leb b w h)
 
 pub ahead_under : (w key b : ℕ) → ahead w key b < 2 ^ suc (w - b)
-ahead_under w key b = go (order b w)
+ahead_under w key b = go (cases_lt w b)
   where
-    go : (b ≤ w) ⊎ (w < b) → ahead w key b < 2 ^ suc (w - b)
-    go (inl h) = omega (arith, some_ahead w key b h, double (w - b), mod-lt key (pow_pos (w - b)))
-    go (inr h) = omega (arith, none_ahead w key b h, pow_pos (suc (w - b)))
+    go : (w < b) ⊎ (b ≤ w) → ahead w key b < 2 ^ suc (w - b)
+    go (inr h) = omega (arith, some_ahead w key b h, double (w - b), mod-lt key (pow_pos (w - b)))
+    go (inl h) = omega (arith, none_ahead w key b h, pow_pos (suc (w - b)))
 
 pub ahead_low : (w key b : ℕ) → 0 < b → ahead w key b < 2 ^ w
-ahead_low w key b h = go (order b w)
+ahead_low w key b h = go (cases_lt w b)
   where
-    go : (b ≤ w) ⊎ (w < b) → ahead w key b < 2 ^ w
-    go (inl g) = lt_of_lt_of_le (ahead_under w key b) (pow_mono (let s : suc (w - b) ≤ w = omega arith in s))
-    go (inr g) = omega (arith, none_ahead w key b g, pow_pos w)
+    go : (w < b) ⊎ (b ≤ w) → ahead w key b < 2 ^ w
+    go (inr g) = lt_of_lt_of_le (ahead_under w key b) (pow_mono (let s : suc (w - b) ≤ w = omega arith in s))
+    go (inl g) = omega (arith, none_ahead w key b g, pow_pos w)
 
 -- ---- as the code computes them
-
-pub ahead_fits : (w key b first : ℕ) → w ≤ 64 → 0 < b → b ≤ w → first ≡ 2 ^ (w - b) → first + key % first < 2 ^ 64
-ahead_fits w key b first wide pos h e =
-    rw (e, sym (some_ahead w key b h)) (lt_of_lt_of_le (ahead_under w key b) (pow_mono (let s : suc (w - b) ≤ 64 = omega arith in s)))
 
 pub last_bits_low : (w key p rest : ℕ) → rest ≡ key % 2 ^ (w - p) → rest < 2 ^ w
 last_bits_low w key p rest e = rw e (lt_of_lt_of_le (mod-lt key (pow_pos (w - p))) (pow_mono (let s : w - p ≤ w = omega arith in s)))

@@ -1,10 +1,9 @@
 -- The entry on level 0 where the search of a page stops, and an entry as one number. Assumes nothing.
 use mathlib.Core.Path.{◌≡◌, refl, sym, ap, subst, ◌∙◌}
-use mathlib.Core.Bool.{Bool, true, false, cond}
+use mathlib.Core.Bool.{Bool}
 use mathlib.Core.List.{List}
-use Prim.Native.Nat.{ℕ, zero, suc, ◌+◌, ◌*◌, ◌/◌, ◌≤◌, ◌<◌}
+use Prim.Native.Nat.{ℕ, zero, suc, ◌≤◌, ◌<◌}
 use native.Mathlib.Omega.{arith}
-use lib.Dec.{eqb}
 use lib.ListN.{length, get_or}
 use Rattle.leaf_list.proofs.Lists.{all_at}
 use Rattle.index_table.specs.Layout.{Ref, layout_of, page_bytes, ref_at}
@@ -13,26 +12,6 @@ use Rattle.table_search.specs.declared.Leaf.{Leaf}
 use Rattle.table_search.specs.declared.Spot.{Spot}
 use Rattle.table_search.specs.Places.{SeekPre, Stopped, Ends, LeafLow, place_in, page_in, pointer_in, trail_in, before_in, thin_in, LeafNumber, NumberPre, number_leaf}
 use Rattle.table_search.proofs.Stops.{depth_before, depth_before_lem, read_entry}
-
--- What a number is made of can be read off it.
-module _ (l : Leaf) (low : LeafLow l) (page_low : l.page.0 ≤ 65535) (k : ℕ) (thin_is : k ≡ cond l.thin 1 0) (k_low : k ≤ 1)
-    (r : ℕ) (is : r ≡ ((((k * 256 + l.before) * 256 + l.trail) * 256 + l.at) * 65536 + l.page.0) * 65536 + l.pointer) where
-  top_is : r / 72057594037927936 ≡ k
-  top_is = omega (arith, is, low.at, low.pointer, low.trail, low.before, page_low)
-
-  pub leaf_numbered : LeafNumber l r
-  leaf_numbered = record {
-    at_is = omega (arith, is, low.at, low.pointer, page_low);
-    pointer_is = omega (arith, is, low.pointer);
-    page_is = omega (arith, is, low.pointer, page_low);
-    trail_is = omega (arith, is, low.at, low.pointer, low.trail, page_low);
-    before_is = omega (arith, is, low.at, low.pointer, low.trail, low.before, page_low);
-    thin_is = ap (λ (n : ℕ). eqb n 1) (top_is ∙ thin_is) ∙ go l.thin;
-  }
-    where
-      go : (t : Bool) → eqb (cond t 1 0) 1 ≡ t
-      go true = refl
-      go false = refl
 
 -- With the depth that stands in its page, the entry is known by its number.
 pub number_leaf_lem : {l : Leaf} {r : ℕ} (pages : Pages) → LeafNumber l r → l.depth ≡ (get_or (pages l.page.0) l.at (0, 0)).0 → number_leaf pages r ≡ l

@@ -6,13 +6,14 @@ use native.Mathlib.Omega.{arith}
 use native.Mathlib.Nat.{mod-lt, eq-or-lt_of_le, eq-zero-or-pos, lt_of_lt_of_le, lt_of_not-le, not-le_of_lt, suc-mul, one-mul, add-mul, mul_assoc, zero-mul, zero-div, div-eq_of_lt}
 use lib.Bits.{bit_or, or_add_and, and_mask}
 use lib.Count.{count_leading_zeros, count_trailing_zeros, leading_top}
+use Rattle.std.proofs.lemmas.Bool.{cases_lt}
 use lib.Pow.{pow_pos, pow_mono, pow-add, mod-pow-add, split, high, low, shl-shr, shr-shr, shr_mono, ones_lt, ones_split, suc_ones}
 use borrow.Author.Tests.{ne_eqb}
 use Rattle.leaf_list.proofs.KeyLaws.{first_difference_lem, same_key}
 use Rattle.leaf_list.specs.Keys.{bits, first_difference}
 use Rattle.table_search.specs.Places.{ahead, last_before, last_position, Passed}
 use Rattle.table_search.proofs.NextPositions.{next_none, next_some}
-use Rattle.table_search.proofs.BitsAhead.{order, double, some_ahead, none_ahead, ahead_under}
+use Rattle.table_search.proofs.BitsAhead.{double, some_ahead, none_ahead, ahead_under}
 use Rattle.table_search.proofs.LastBits.{zeros_behind}
 use Rattle.table_search.proofs.Stops.{passed_kept, passed_next}
 
@@ -91,15 +92,15 @@ module _ (w a D b d : ℕ) (inside : d ≤ w) where
 
   -- and passes it else.
   pub apart_pass : Apart w a D b → last_before w d D < a → b ≤ d
-  apart_pass at l = go (order b d)
+  apart_pass at l = go (cases_lt d b)
     where
       same : Apart w a D b → d < b → a / 2 ^ (w - d) ≡ D / 2 ^ (w - d)
       same (inl h) g = ap (λ (n : ℕ). n / 2 ^ (w - d)) (sym h.1)
       same (inr h) g = fewer_same a D (suc (w - b)) (w - d) (omega (arith, h.0)) h.2
 
-      go : (b ≤ d) ⊎ (d < b) → b ≤ d
-      go (inl h) = h
-      go (inr h) =
+      go : (d < b) ⊎ (b ≤ d) → b ≤ d
+      go (inr h) = h
+      go (inl h) =
           absurd (omega (arith, ap (λ (n : ℕ). n * 2 ^ (w - d)) (same at h), split a (w - d), mod-lt a (pow_pos (w - d)), suc_ones (w - d), l))
 
 -- ---- the key's bits from a position on
@@ -116,10 +117,10 @@ ahead_last w key b j h g =
 
 -- A page is begun with no entry passed.
 pub apart_start : (w key b : ℕ) → b ≤ w + 1 → Apart w (ahead w key b) 0 b
-apart_start w key b h = go (order b w)
+apart_start w key b h = go (cases_lt w b)
   where
-    go : (b ≤ w) ⊎ (w < b) → Apart w (ahead w key b) 0 b
-    go (inl g) =
+    go : (w < b) ⊎ (b ≤ w) → Apart w (ahead w key b) 0 b
+    go (inr g) =
         let j : ℕ = w - b in
         let q : ahead w key b ≡ 1 * 2 ^ j + key % 2 ^ j = omega (arith, some_ahead w key b g, one-mul (2 ^ j)) in
         inr (
@@ -127,7 +128,7 @@ apart_start w key b h = go (order b w)
           ap (λ (n : ℕ). n / 2 ^ j) q ∙ high 1 j (mod-lt key (pow_pos j)) ∙ ap suc (sym (zero-div (2 ^ j))),
           div-eq_of_lt (ahead_under w key b) ∙ sym (zero-div (2 ^ suc j)),
         )
-    go (inr g) = inl (omega arith, sym (none_ahead w key b g))
+    go (inl g) = inl (omega arith, sym (none_ahead w key b g))
 
 -- What is left of the positions once an entry was passed.
 pub record Onward (w key a D b d : ℕ) : Type 0 where

@@ -9,6 +9,7 @@ use native.Mathlib.Nat.{mod-lt, eq-or-lt_of_le, eq-zero-or-pos, lt_of_le_of_lt, 
 use native.Mathlib.Numerals.{add-one}
 use lib.Dec.{leb}
 use lib.ListN.{length, get_or, drop}
+use Rattle.std.proofs.lemmas.Bool.{cases_lt}
 use lib.Pow.{pow_pos}
 use lib.Seq.{drop-cons}
 use borrow.Author.Tests.{le-leb, lt-leb}
@@ -17,7 +18,7 @@ use Rattle.leaf_list.specs.Depths.{Unmatched, Unrepeated}
 use Rattle.index_table.specs.Layout.{Ref}
 use Rattle.table_search.specs.declared.Spot.{Spot}
 use Rattle.table_search.specs.Places.{ahead, last_before, last_position, depth_of, spot_at, Stopped}
-use Rattle.table_search.proofs.BitsAhead.{order, ahead_low}
+use Rattle.table_search.proofs.BitsAhead.{ahead_low}
 use Rattle.table_search.proofs.PageDiscriminators.{Apart, next_before, next_behind, disc_rises, next_fits, apart_start, apart_stop, apart_pass, apart_next, apart_position, last_next}
 use Rattle.table_search.proofs.Stops.{Seeking, depth_before, depth_before_lem, seeking_start, seeking_more, seeking_stop}
 
@@ -93,7 +94,7 @@ module _ {w key b₀ : ℕ} {row : List Ref} (wide : w ≤ 64) (pos : 0 < b₀) 
 
       -- What is still to be closed behind it.
       unclosed_next : (z : ℕ) → z ≤ w → suc (last_before w d D) / 2 ^ (w - z) % 2 ≡ 1 → Unmatched depth_of z (drop (i + 1) row)
-      unclosed_next z h q = go (order z d)
+      unclosed_next z h q = go (cases_lt d z)
         where
           at : drop (suc i) row ≡ drop (i + 1) row
           at = ap (λ (n : ℕ). drop n row) (sym (add-one i))
@@ -107,9 +108,9 @@ module _ {w key b₀ : ℕ} {row : List Ref} (wide : w ≤ 64) (pos : 0 < b₀) 
           before (inr l) =
               deeper l (subst (Unmatched depth_of z) here (s.unclosed z h (ap (λ (n : ℕ). n % 2) (sym (next_before w d D (w - z) clear (omega arith))) ∙ q)))
 
-          go : (z ≤ d) ⊎ (d < z) → Unmatched depth_of z (drop (i + 1) row)
-          go (inl l) = before (eq-or-lt_of_le l)
-          go (inr l) = absurd (omega (arith, q, next_behind w d D (w - z) (omega arith)))
+          go : (d < z) ⊎ (z ≤ d) → Unmatched depth_of z (drop (i + 1) row)
+          go (inr l) = before (eq-or-lt_of_le l)
+          go (inl l) = absurd (omega (arith, q, next_behind w d D (w - z) (omega arith)))
 
       -- Its depth is before the next.
       trailing_next : 0 < d → (τ : ℕ) → last_position w τ (last_before w d D + 1) ≡ depth_before τ row (i + 1)
@@ -170,8 +171,8 @@ module _ {w key b₀ : ℕ} {row : List Ref} (wide : w ≤ 64) (pos : 0 < b₀) 
   -- be it at an entry or at the one behind it.
   pub stop_of_two : {a D i d τ : ℕ} → SeekingBy w key b₀ row a D i → d ≤ w → d ≡ (get_or row i (0, 0)).0 → (last : ℕ) → last ≡ last_before w d D
       → (last < a → Halted w key b₀ row a (last + 1) (i + 1)) → (r : Spot) → r ≡ cond (leb a last) (spot_at w a τ D i) (spot_at w a τ (last + 1) (i + 1)) → Stopped w key b₀ τ row r
-  stop_of_two {a} {D} {i} {d} {τ} s low is last last_is behind r e = go (order a last)
+  stop_of_two {a} {D} {i} {d} {τ} s low is last last_is behind r e = go (cases_lt last a)
     where
-      go : (a ≤ last) ⊎ (last < a) → Stopped w key b₀ τ row r
-      go (inl h) = stop_at (halt_here s low is (omega (arith, last_is))) r (e ∙ ap (λ (t : Bool). cond t (spot_at w a τ D i) (spot_at w a τ (last + 1) (i + 1))) (le-leb a last h))
-      go (inr h) = stop_at (behind h) r (e ∙ ap (λ (t : Bool). cond t (spot_at w a τ D i) (spot_at w a τ (last + 1) (i + 1))) (lt-leb a last h))
+      go : (last < a) ⊎ (a ≤ last) → Stopped w key b₀ τ row r
+      go (inr h) = stop_at (halt_here s low is (omega (arith, last_is))) r (e ∙ ap (λ (t : Bool). cond t (spot_at w a τ D i) (spot_at w a τ (last + 1) (i + 1))) (le-leb a last h))
+      go (inl h) = stop_at (behind h) r (e ∙ ap (λ (t : Bool). cond t (spot_at w a τ D i) (spot_at w a τ (last + 1) (i + 1))) (lt-leb a last h))

@@ -6,7 +6,7 @@ ghost use Rattle.index_table.specs.Layout.{Within, layout_of};
 ghost use Rattle.index_table.specs.Pages.{pages_at};
 ghost use Rattle.table_search.specs.Places.{ahead, first_position, last_before, last_position, NextPosition, SeekPre, spot_at, Stopped, sparse_at, LeafLow, LeafNumber, pointer_in, NumberPre, number_leaf, ReachPre, Reached};
 
-use index_table::layout::{PageNo, child, count, deep, depth, pointer, wide, wide16};
+use index_table::layout::{PageNo, child, count, depth, pointer};
 use leaf_list::{bit, first_difference};
 
 // A place in a page: the entry, the next position, and the depth before the entry.
@@ -35,10 +35,7 @@ pub fn last_bits(w: u64, key: u64, p: u64) -> u64
     requires { (w ≤ 64) × (p ≤ w) × (key < 2 ^ w) }
     ensures { result ≡ key % 2 ^ (w - p) }
 {
-    if p == 0 {
-        return key;
-    }
-    key % bit(w, p)
+    if p == 0 { key } else { key % bit(w, p) }
 }
 
 // The position of the first of the bits ahead; w + 1 where there is none.
@@ -46,7 +43,7 @@ fn first_position(w: u64, ahead: u64) -> u64
     requires { (w ≤ 64) × (ahead < 2 ^ w) }
     ensures { result ≡ first_position w ahead }
 {
-    u64::leading_zeros(ahead) as u64 + w - 63
+    u64::from(ahead.leading_zeros()) + w - 63
 }
 
 // The position that follows the first p bits of a key: its next one-bit, or w + 1.
@@ -63,10 +60,11 @@ fn bits_ahead(w: u64, key: u64, b: u64) -> u64
     ensures { result ≡ ahead w key b }
 {
     if w < b {
-        return 0;
+        0
+    } else {
+        let first = bit(w, b);
+        first + key % first
     }
-    let first = bit(w, b);
-    first + key % first
 }
 
 // The bits behind the first of w.
@@ -74,10 +72,7 @@ fn bits_behind_first(w: u64) -> u64
     requires { w ≤ 64 }
     ensures { result ≡ 2 ^ (w - 1) - 1 }
 {
-    if w == 0 {
-        return 0;
-    }
-    bit(w, 1) - 1
+    if w == 0 { 0 } else { bit(w, 1) - 1 }
 }
 
 // The last number before the discriminator of an entry of depth d that follows the discriminator disc; ones are the bits behind the first of w.
@@ -94,9 +89,10 @@ fn last_position(w: u64, number: u64, none: u64) -> u64
     ensures { result ≡ last_position w none number }
 {
     if number == 0 {
-        return none;
+        none
+    } else {
+        w - u64::from(number.trailing_zeros())
     }
-    w - u64::trailing_zeros(number) as u64
 }
 
 // The place at an entry that follows the discriminator disc. The key's bits ahead differ from it first at the next position, and its last one-bit is the
@@ -117,13 +113,12 @@ fn spot_of_two(w: u64, bits: u64, trail: u64, disc: u64, last: u64, at: usize) -
     requires { (w ≤ 64) × (bits < 2 ^ w) × (disc < 2 ^ w) × (at < 256) }
     ensures { result ≡ cond (leb bits last) (spot_at w bits trail disc at) (spot_at w bits trail (last + 1) (at + 1)) }
 {
-    let mut passed = disc;
-    let mut i = at;
-    if last < bits {
-        passed = last + 1;
-        i = at + 1;
-    }
-    spot_at(w, bits, trail, passed, i)
+    let (passed, stop) = if last < bits {
+        (last + 1, at + 1)
+    } else {
+        (disc, at)
+    };
+    spot_at(w, bits, trail, passed, stop)
 }
 
 // The entry of a page at which figure 6 stops, begun at a position and with the depth before. In the page the discriminators of its own entries are
@@ -132,14 +127,14 @@ pub fn seek(index: &[u8], e: u8, page: PageNo, w: u64, key: u64, position: u64, 
     requires { SeekPre index.now e page.0 w key position }
     ensures { Stopped w key position trail (pages_at (layout_of e) index.now page.0) result }
 {
-    let n = wide(count(index, e, page));
+    let n = usize::from(count(index, e, page));
     let bits = bits_ahead(w, key, position);
     let ones = bits_behind_first(w);
     let mut disc: u64 = 0;
     let mut i: usize = 0;
     while i + 2 < n {
-        let first = last_before(w, ones, disc, deep(depth(index, e, page, i)));
-        let second = last_before(w, ones, first + 1, deep(depth(index, e, page, i + 1)));
+        let first = last_before(w, ones, disc, u64::from(depth(index, e, page, i)));
+        let second = last_before(w, ones, first + 1, u64::from(depth(index, e, page, i + 1)));
         if bits <= second {
             return spot_of_two(w, bits, trail, disc, first, i);
         }
@@ -147,7 +142,7 @@ pub fn seek(index: &[u8], e: u8, page: PageNo, w: u64, key: u64, position: u64, 
         i += 2;
     }
     if i + 1 < n {
-        let last = last_before(w, ones, disc, deep(depth(index, e, page, i)));
+        let last = last_before(w, ones, disc, u64::from(depth(index, e, page, i)));
         return spot_of_two(w, bits, trail, disc, last, i);
     }
     spot_at(w, bits, trail, disc, i)
@@ -158,17 +153,7 @@ pub fn sparse(index: &[u8], e: u8, page: PageNo) -> bool
     requires { Within (layout_of e) index.now page.0 }
     ensures { result ≡ sparse_at e (pages_at (layout_of e) index.now) page.0 }
 {
-    4 * wide(count(index, e, page)) < wide(e)
-}
-
-// Returns 1 for true and 0 for false.
-fn one_if(flag: bool) -> u64
-    ensures { (result ≡ cond flag 1 0) × (result ≤ 1) }
-{
-    if flag {
-        return 1;
-    }
-    0
+    4 * usize::from(count(index, e, page)) < usize::from(e)
 }
 
 // Packs an entry on level 0 but for its depth into one number: whether the page above is sparse, the depth before its page, the one before it, its
@@ -177,9 +162,9 @@ fn leaf_number(leaf: Leaf) -> u64
     requires { LeafLow leaf }
     ensures { LeafNumber leaf result }
 {
-    let depths = (one_if(leaf.thin) * 256 + leaf.before) * 256 + leaf.trail;
-    let place = (depths * 256 + leaf.at as u64) * 65536 + wide16(leaf.page.0) as u64;
-    place * 65536 + leaf.pointer as u64
+    let depths = (u64::from(leaf.thin) * 256 + leaf.before) * 256 + leaf.trail;
+    let place = (depths * 256 + leaf.at as u64) * 65536 + u64::from(leaf.page.0);
+    place * 65536 + u64::from(leaf.pointer)
 }
 
 // Returns what the entry that a number means points at.
@@ -200,7 +185,7 @@ pub fn numbered_leaf(index: &[u8], e: u8, number: u64) -> Leaf
         at,
         pointer: number_pointer(number),
         page,
-        depth: deep(depth(index, e, page, at)),
+        depth: u64::from(depth(index, e, page, at)),
         trail: number / 1099511627776 % 256,
         before: number / 281474976710656 % 256,
         thin: number / 72057594037927936 == 1,
@@ -224,14 +209,14 @@ pub fn descend(
 {
     let table = *index;
     let h = index_table::header::read(table);
-    let w = deep(h.width);
+    let w = u64::from(h.width);
     let s = seek(table, h.entries, page, w, key, position, trail);
     if level == 0 {
         return leaf_number(Leaf {
             at: s.at,
             pointer: pointer(table, h.entries, page, s.at),
             page,
-            depth: deep(depth(table, h.entries, page, s.at)),
+            depth: u64::from(depth(table, h.entries, page, s.at)),
             trail: s.trail,
             before: trail,
             thin,

@@ -1,27 +1,21 @@
 -- From the root, with the lower end's first position. Assumes nothing.
-use mathlib.Core.Path.{◌∙◌}
-use native.Mathlib.Omega.{arith}
-use Rattle.index_table.proofs.SoundTables.{header_long}
-use Rattle.table_find.proofs.FoundLeaves.{root_page, width_high, key_narrow}
+use Rattle.table_find.proofs.FoundLeaves.{root_page}
 use Rattle.table_list.proofs.ListedHerds.{list_start, list_end}
 use Rattle.table_list.proofs.list_held.Goals as goal
-
-pub read-h-requires : goal.read-h-requires
-read-h-requires c = header_long c.requires.0
+use Rattle.table_list.proofs.list_held.Goals.{in-Continue, in-Break}
 
 pub level-level-requires : goal.level-level-requires
 level-level-requires c = root_page c.requires.0 _ c.read-h.ensures
 
-pub next_position-position-requires : goal.next_position-position-requires
-next_position-position-requires c =
-    let read = c.read-h.ensures in
-    (width_high c.requires.0 _ read _ c.deep-w.ensures, omega arith, key_narrow c.requires.0 _ read _ _ _ c.deep-w.ensures c.level-level.ensures c.requires.1)
-
-pub list_from-l-requires : goal.list_from-l-requires
-list_from-l-requires c =
-    list_start c.requires.0 _ c.read-h.ensures _ _ _ c.deep-w.ensures c.level-level.ensures c.requires.1 _ c.next_position-position.ensures
+pub list_from-requires : goal.list_from-requires
+list_from-requires c =
+    list_start c.requires.0 _ c.read-h.ensures _ _ _ c.from-w.ensures c.level-level.ensures c.requires.1 _ c.next_position-position.ensures
 
 pub returns : goal.returns
 returns c =
-    let end = list_end c.requires.0 _ c.read-h.ensures _ _ _ c.deep-w.ensures c.level-level.ensures c.requires.1 _ _ _ _ c.next_position-position.ensures c.list_from-l.ensures in
-    record { answered = c.with_count.ensures ∙ end.answered; slice = end.slice }
+    let end = list_end c.requires.0 _ c.read-h.ensures _ _ _ c.from-w.ensures c.level-level.ensures c.requires.1 _ _ _ in
+    rw c.with_count.ensures
+    (elim c.match-list_from.branch [
+      | in-Continue w ↦ rw w.count-is (end _ c.next_position-position.ensures w.in-Continue.ensures)
+      | in-Break w ↦ rw w.count-is (end _ c.next_position-position.ensures w.in-Break.ensures)
+    ])

@@ -10,7 +10,7 @@ returns-in_default c =
 
 pub bounds-keys-at : goal.bounds-keys-at
 bounds-keys-at c =
-    visited_inside _ 0 0 c.args.out.now _ _ c.requires _ (live_pointer _ _ _ c.answer_of.ensures c.in-Some.is)
+    visited_inside _ 0 0 c.args.out.now 0 _ c.requires _ (live_pointer _ _ _ c.answer_of.ensures c.in-Some.is)
 
 pub returns-then-key-a : goal.returns-then-key-a
 returns-then-key-a c =

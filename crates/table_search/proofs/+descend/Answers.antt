@@ -30,50 +30,47 @@ module _ (b : List ℕ) {n page key position e w : ℕ} (he : e ≡ entries_of b
       → Descended (width_of b) key position τ n few (entries_of b) (pages_at (layout_of (entries_of b)) b) page (number_leaf (pages_at (layout_of (entries_of b)) b) r)
   up r d = rw (he, hw) at d
 
-pub read-h-requires : goal.read-h-requires
-read-h-requires t c = omega (arith, c.requires.page_is.table)
-
 pub seek-s-requires : goal.seek-s-requires
 seek-s-requires t c =
-    descend_seek (held _ c.read-h.ensures.entries (c.deep-w.ensures ∙ c.read-h.ensures.width) c.requires.page_is)
+    descend_seek (held _ c.read-h.ensures.entries (c.from-w.ensures ∙ c.read-h.ensures.width) c.requires.page_is)
 
 pub pointer-requires : goal.pointer-requires
 pointer-requires t c =
-    let pre = held _ c.read-h.ensures.entries (c.deep-w.ensures ∙ c.read-h.ensures.width) c.requires.page_is in
+    let pre = held _ c.read-h.ensures.entries (c.from-w.ensures ∙ c.read-h.ensures.width) c.requires.page_is in
     (descend_within pre, descend_inside pre _ c.seek-s.ensures)
 
 pub depth-requires : goal.depth-requires
 depth-requires t c =
-    let pre = held _ c.read-h.ensures.entries (c.deep-w.ensures ∙ c.read-h.ensures.width) c.requires.page_is in
+    let pre = held _ c.read-h.ensures.entries (c.from-w.ensures ∙ c.read-h.ensures.width) c.requires.page_is in
     (descend_within pre, descend_inside pre _ c.seek-s.ensures)
 
 pub leaf_number-requires : goal.leaf_number-requires
 leaf_number-requires t c =
-    let pre = descend_seek (held _ c.read-h.ensures.entries (c.deep-w.ensures ∙ c.read-h.ensures.width) c.requires.page_is) in
-    stop_low pre _ c.seek-s.ensures _ _ _ (c.deep.ensures ∙ c.depth.ensures) c.requires.trail_low (omega (arith, c.read-h.ensures.entries, c.requires.entries_high)) c.pointer.ensures.1
+    let pre = descend_seek (held _ c.read-h.ensures.entries (c.from-w.ensures ∙ c.read-h.ensures.width) c.requires.page_is) in
+    stop_low pre _ c.seek-s.ensures _ _ _ (c.from.ensures ∙ c.depth.ensures) c.requires.trail_low (omega (arith, c.read-h.ensures.entries, c.requires.entries_high)) c.pointer.ensures.1
 
 pub returns-then-level-eq0 : goal.returns-then-level-eq0
 returns-then-level-eq0 t c =
     let he = c.read-h.ensures.entries in
-    let hw = c.deep-w.ensures ∙ c.read-h.ensures.width in
+    let hw = c.from-w.ensures ∙ c.read-h.ensures.width in
     let pre = held _ he hw c.requires.page_is in
     up _ he hw _
     (descend_leaf _ pre c.if-level-eq0.true _ _
-    (stop_number (descend_seek pre) _ c.seek-s.ensures _ _ _ (c.deep.ensures ∙ c.depth.ensures) c.pointer.ensures.0 c.leaf_number.ensures))
+    (stop_number (descend_seek pre) _ c.seek-s.ensures _ _ _ (c.from.ensures ∙ c.depth.ensures) c.pointer.ensures.0 c.leaf_number.ensures))
 
 pub child-below-requires : goal.child-below-requires
 child-below-requires t c =
-    let pre = held _ c.read-h.ensures.entries (c.deep-w.ensures ∙ c.read-h.ensures.width) c.requires.page_is in
+    let pre = held _ c.read-h.ensures.entries (c.from-w.ensures ∙ c.read-h.ensures.width) c.requires.page_is in
     (descend_within pre, descend_inside pre _ c.seek-s.ensures)
 
 pub sparse-few-requires : goal.sparse-few-requires
 sparse-few-requires t c =
-    descend_within (held _ c.read-h.ensures.entries (c.deep-w.ensures ∙ c.read-h.ensures.width) c.requires.page_is)
+    descend_within (held _ c.read-h.ensures.entries (c.from-w.ensures ∙ c.read-h.ensures.width) c.requires.page_is)
 
 pub descend-requires : goal.descend-requires
 descend-requires t c =
     let he = c.read-h.ensures.entries in
-    let hw = c.deep-w.ensures ∙ c.read-h.ensures.width in
+    let hw = c.from-w.ensures ∙ c.read-h.ensures.width in
     let pre = held _ he hw c.requires.page_is in (
       omega (arith, c.decreases),
       record {
@@ -86,7 +83,7 @@ descend-requires t c =
 pub returns : goal.returns
 returns t c =
     let he = c.read-h.ensures.entries in
-    let hw = c.deep-w.ensures ∙ c.read-h.ensures.width in
+    let hw = c.from-w.ensures ∙ c.read-h.ensures.width in
     up _ he hw _
     (descend_up _ c.if-level-eq0.false (held _ he hw c.requires.page_is) _ c.seek-s.ensures _ c.child-below.ensures _ _
     (down _ he hw _ _ c.sparse-few.ensures c.descend.ensures))

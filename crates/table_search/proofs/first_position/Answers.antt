@@ -1,10 +1,10 @@
 -- By the zeros above the highest bit. Assumes nothing.
-use mathlib.Core.Path.{◌≡◌, refl, ap, ◌∙◌}
+use mathlib.Core.Path.{◌≡◌, ap, ◌∙◌}
 use mathlib.Core.Logic.{◌⊎◌, inl, inr}
 use Prim.Native.Nat.{ℕ, ◌+◌, ◌≤◌, ◌<◌, ◌^◌}
 use native.Mathlib.Omega.{arith}
 use native.Mathlib.Nat.{eq-zero-or-pos, lt_of_lt_of_le, lt_of_not-le, not-le_of_lt}
-use lib.Count.{count_leading_zeros, leading_of_zero, leading_le, leading_top}
+use lib.Count.{count_leading_zeros, leading_of_zero, leading_top}
 use lib.Pow.{pow_mono}
 use Rattle.table_search.proofs.first_position.Goals as goal
 
@@ -19,14 +19,5 @@ zeros w a h l = go (eq-zero-or-pos a)
         let g : t.0 < w = lt_of_not-le (λ (q : w ≤ t.0). not-le_of_lt (lt_of_lt_of_le l (pow_mono q)) t.2) in
         omega (arith, t.1)
 
-pub returns : goal.returns
-returns c = refl
-
-pub overflow_cast-result : goal.overflow_cast-result
-overflow_cast-result c = omega (arith, leading_le 64 c.args.ahead)
-
-pub overflow_add-result : goal.overflow_add-result
-overflow_add-result c = omega (arith, leading_le 64 c.args.ahead)
-
 pub overflow_sub-result : goal.overflow_sub-result
-overflow_sub-result c = omega (arith, zeros _ _ c.requires.0 c.requires.1)
+overflow_sub-result c = omega (arith, c.from.ensures, zeros _ _ c.requires.0 c.requires.1)

@@ -1,9 +1,6 @@
 -- The first of the bits left, or w + 1 where none is. Assumes nothing.
-use Rattle.table_search.proofs.BitsAhead.{next_first, last_bits_low}
+use Rattle.table_search.proofs.BitsAhead.{next_first}
 use Rattle.table_search.proofs.next_position.Goals as goal
-
-pub first_position-requires : goal.first_position-requires
-first_position-requires c = (c.requires.0, last_bits_low _ _ _ _ c.last_bits.ensures)
 
 pub returns : goal.returns
 returns c =

@@ -10,42 +10,42 @@ use Rattle.table_search.proofs.seek.Goals as goal
 pub loop-i-init : goal.loop-i-init
 loop-i-init c =
     let pre = c.requires in (
-      c.wide-n.ensures.0 ∙ c.count.ensures ∙ sym (length_refs _ _),
+      c.from-n.ensures ∙ c.count.ensures ∙ sym (length_refs _ _),
       seek_begun pre.width pre.low pre.some pre.high pre.unrepeated _ c.bits_ahead-bits.ensures,
     )
 
 pub last_before-first-requires : goal.last_before-first-requires
 last_before-first-requires c =
     let pre = c.requires in
-    let d = c.deep.ensures ∙ c.depth.ensures in
+    let d = c.from.ensures ∙ c.depth.ensures in
     (pre.width, c.bits_behind_first-ones.ensures, depth_inner _ _ pre (omega (arith, c.loop-i.invariant.0)) d, (read_depth _ _ pre c.loop-i.invariant.1.seeking.inside d).0)
 
 pub overflow_add-first : goal.overflow_add-first
 overflow_add-first c =
     let pre = c.requires in
     let inv = c.loop-i.invariant in
-    let d = c.deep.ensures ∙ c.depth.ensures in
+    let d = c.from.ensures ∙ c.depth.ensures in
     let read = read_depth _ _ pre inv.1.seeking.inside d in
     omega (arith, c.last_before-first.ensures, pow_mono pre.width, seek_fits pre.width pre.low inv.1 read.0 read.1 (depth_inner _ _ pre (omega (arith, inv.0)) d))
 
 pub last_before-second-requires : goal.last_before-second-requires
 last_before-second-requires c =
     let pre = c.requires in
-    let d = c.deep-in-loop-i.ensures ∙ c.depth-in-loop-i.ensures in
+    let d = c.from-in-loop-i.ensures ∙ c.depth-in-loop-i.ensures in
     (pre.width, c.bits_behind_first-ones.ensures, depth_inner _ _ pre (omega (arith, c.loop-i.invariant.0)) d, (read_depth _ _ pre (omega (arith, c.loop-i.invariant.0)) d).0)
 
 pub spot_of_two-requires : goal.spot_of_two-requires
 spot_of_two-requires c =
     let pre = c.requires in
     let by = c.loop-i.invariant.1 in
-    (pre.width, bits_low pre.width pre.low by, disc_low pre.width pre.low by, omega (arith, by.seeking.inside, c.loop-i.invariant.0, c.wide-n.ensures.1))
+    (pre.width, bits_low pre.width pre.low by, disc_low pre.width pre.low by, omega (arith, by.seeking.inside, c.loop-i.invariant.0, c.from-n.ensures))
 
 pub returns-then-bits-second : goal.returns-then-bits-second
 returns-then-bits-second c =
     let pre = c.requires in
     let inv = c.loop-i.invariant in
-    let read = read_depth _ _ pre inv.1.seeking.inside (c.deep.ensures ∙ c.depth.ensures) in
-    let read2 = read_depth _ _ pre (omega (arith, inv.0)) (c.deep-in-loop-i.ensures ∙ c.depth-in-loop-i.ensures) in
+    let read = read_depth _ _ pre inv.1.seeking.inside (c.from.ensures ∙ c.depth.ensures) in
+    let read2 = read_depth _ _ pre (omega (arith, inv.0)) (c.from-in-loop-i.ensures ∙ c.depth-in-loop-i.ensures) in
     stop_of_two pre.width pre.low inv.1 read.0 read.1 _ c.last_before-first.ensures
     (halt_second pre.width pre.low inv.1 read.0 read.1 read2.0 read2.1 _ _ c.last_before-first.ensures c.last_before-second.ensures (omega (arith, inv.0)) c.if-bits-second.true) _
     c.spot_of_two.ensures
@@ -54,8 +54,8 @@ pub loop-i-preserved : goal.loop-i-preserved
 loop-i-preserved c =
     let pre = c.requires in
     let inv = c.loop-i.invariant in
-    let read = read_depth _ _ pre inv.1.seeking.inside (c.deep.ensures ∙ c.depth.ensures) in
-    let read2 = read_depth _ _ pre (omega (arith, inv.0)) (c.deep-in-loop-i.ensures ∙ c.depth-in-loop-i.ensures) in (
+    let read = read_depth _ _ pre inv.1.seeking.inside (c.from.ensures ∙ c.depth.ensures) in
+    let read2 = read_depth _ _ pre (omega (arith, inv.0)) (c.from-in-loop-i.ensures ∙ c.depth-in-loop-i.ensures) in (
       inv.0,
       seek_two pre.width pre.low inv.1 read.0 read.1 read2.0 read2.1 _ _ c.last_before-first.ensures c.last_before-second.ensures (omega (arith, inv.0)) c.if-bits-second.false,
     )
@@ -63,20 +63,20 @@ loop-i-preserved c =
 pub last_before-last-requires : goal.last_before-last-requires
 last_before-last-requires c =
     let pre = c.requires in
-    let d = c.deep-then-i-n.ensures ∙ c.depth-then-i-n.ensures in
+    let d = c.from-then-i-n.ensures ∙ c.depth-then-i-n.ensures in
     (pre.width, c.bits_behind_first-ones.ensures, depth_inner _ _ pre (omega (arith, c.loop-i.invariant.0)) d, (read_depth _ _ pre c.loop-i.invariant.1.seeking.inside d).0)
 
 pub spot_of_two-requires-then-i-n : goal.spot_of_two-requires-then-i-n
 spot_of_two-requires-then-i-n c =
     let pre = c.requires in
     let by = c.loop-i.invariant.1 in
-    (pre.width, bits_low pre.width pre.low by, disc_low pre.width pre.low by, omega (arith, by.seeking.inside, c.loop-i.invariant.0, c.wide-n.ensures.1))
+    (pre.width, bits_low pre.width pre.low by, disc_low pre.width pre.low by, omega (arith, by.seeking.inside, c.loop-i.invariant.0, c.from-n.ensures))
 
 pub returns-then-i-n : goal.returns-then-i-n
 returns-then-i-n c =
     let pre = c.requires in
     let inv = c.loop-i.invariant in
-    let read = read_depth _ _ pre inv.1.seeking.inside (c.deep-then-i-n.ensures ∙ c.depth-then-i-n.ensures) in
+    let read = read_depth _ _ pre inv.1.seeking.inside (c.from-then-i-n.ensures ∙ c.depth-then-i-n.ensures) in
     stop_of_two pre.width pre.low inv.1 read.0 read.1 _ c.last_before-last.ensures
     (halt_next pre.width pre.low inv.1 read.0 read.1 _ c.last_before-last.ensures (omega (arith, inv.0, c.if-i-n.true)) (omega (arith, inv.0, c.loop-i-test.false))) _
     c.spot_of_two-then-i-n.ensures

@@ -7,4 +7,4 @@ use Rattle.table_search.proofs.sparse.Goals as goal
 
 pub returns : goal.returns
 returns c =
-    ap₂ (λ (k l : ℕ). ltb (4 * k) l) (c.wide.ensures.0 ∙ c.count.ensures ∙ sym (length_refs _ _)) c.wide-2.ensures.0
+    ap₂ (λ (k l : ℕ). ltb (4 * k) l) (c.from.ensures ∙ c.count.ensures ∙ sym (length_refs _ _)) c.from-2.ensures
