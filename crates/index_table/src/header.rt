@@ -6,7 +6,7 @@ ghost use Rattle.index_table.specs.IndexNumbers.{IndexOf};
 use crate::layout::PageNo;
 
 // The numbers of a header.
-#[derive(Clone, Copy)]
+#[derive(Clone, Copy, Debug, PartialEq, Eq)]
 pub struct Index {
     pub width: u8,
     pub entries: u8,

@@ -4,25 +4,37 @@ ghost use Rattle.index_table.specs.Layout.{Within, layout_of, page_start, page_b
 ghost use Rattle.index_table.specs.Answers.{answer_of};
 
 // A page's number, made from a pointer above level 0.
-#[derive(Clone, Copy)]
+#[derive(Clone, Copy, Debug, PartialEq, Eq)]
 pub struct PageNo(pub u16);
 
+impl PageNo {
+    // The page that a pointer above level 0 means.
+    pub fn from_pointer(pointer: u32) -> PageNo
+        requires { pointer < 65536 }
+        ensures { result.0 ≡ pointer }
+    {
+        PageNo(pointer as u16)
+    }
+}
+
+// A page's number as a pointer to it.
+impl From<PageNo> for u32 {
+    ghost from_gives = { λ page pointer. (pointer ≡ page.0) × (pointer < 65536) };
+
+    fn from(page: PageNo) -> u32 {
+        u32::from(page.0)
+    }
+}
+
 // A record's number, made from a pointer on level 0.
-#[derive(Clone, Copy)]
+#[derive(Clone, Copy, Debug, PartialEq, Eq)]
 pub struct RecordNo(pub u32);
 
 // A root page and its level.
-#[derive(Clone, Copy)]
+#[derive(Clone, Copy, Debug, PartialEq, Eq)]
 pub struct Root {
     pub page: PageNo,
     pub level: u8,
-}
-
-// What an entry on level 0 points at.
-#[derive(Clone, Copy)]
-pub enum Answer {
-    Live(RecordNo),
-    Dummy,
 }
 
 pub fn wide(x: u8) -> usize
@@ -103,21 +115,18 @@ pub fn child(index: &[u8], e: u8, page: PageNo, i: usize) -> PageNo
     requires { Within (layout_of e) index.now page.0 × (i < e) }
     ensures { result.0 ≡ (ref_at (layout_of e) (page_bytes (layout_of e) index.now page.0) i).1 }
 {
-    PageNo(pointer(index, e, page, i) as u16)
+    PageNo::from_pointer(pointer(index, e, page, i))
 }
 
-// What a pointer on level 0 means.
-pub fn answer_of(pointer: u32) -> Answer
+// The record that a pointer on level 0 means; none for a dummy.
+pub fn answer_of(pointer: u32) -> Option<RecordNo>
     ensures { result ≡ answer_of pointer }
 {
-    if pointer == 65535 {
-        return Answer::Dummy;
-    }
-    Answer::Live(RecordNo(pointer))
+    (pointer != 65535).then_some(RecordNo(pointer))
 }
 
-// The record that entry i of a page of level 0 points at.
-pub fn record(index: &[u8], e: u8, page: PageNo, i: usize) -> Answer
+// The record that entry i of a page of level 0 points at; none for a dummy.
+pub fn record(index: &[u8], e: u8, page: PageNo, i: usize) -> Option<RecordNo>
     requires { Within (layout_of e) index.now page.0 × (i < e) }
     ensures { result ≡ answer_of (ref_at (layout_of e) (page_bytes (layout_of e) index.now page.0) i).1 }
 {

@@ -65,8 +65,7 @@ pub fn new_entries(keys: &[u64], w: u64, key: u64, record: u32, leaf: Leaf) -> N
     requires { FoundPre keys.now w key «record» leaf }
     ensures { NewEntries keys.now w key «record» leaf result }
 {
-    let index_table::layout::Answer::Live(other) = index_table::layout::answer_of(leaf.pointer)
-    else {
+    let Some(other) = index_table::layout::answer_of(leaf.pointer) else {
         return News {
             alone: true,
             low: 0,

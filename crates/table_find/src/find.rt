@@ -40,8 +40,7 @@ pub fn find_held(index: &[u8], keys: &[u64], used: &[u8], key: u64) -> Answer
 {
     // With two callers found_number stays a call that hands over registers alone.
     let pointer = table_search::number_pointer(found_number(index, keys, used, key));
-    let answer = index_table::layout::answer_of(pointer);
-    let index_table::layout::Answer::Live(record) = answer else {
+    let Some(record) = index_table::layout::answer_of(pointer) else {
         return Answer::plain(6);
     };
     let at = record.0 as usize;

@@ -37,8 +37,7 @@ fn visit(keys: &[u64], stored: u32, a: u64, b: u64, out: &mut [u32], listing: Li
     requires { VisitPre keys.now stored listing }
     ensures { (out.new, result) ≡ visited keys.now a b (out.old, listing) (record_of 65535 stored) }
 {
-    let answer = answer_of(stored);
-    let index_table::layout::Answer::Live(record) = answer else {
+    let Some(record) = answer_of(stored) else {
         return listing;
     };
     let at = record.0 as usize;

@@ -6,24 +6,24 @@ use Rattle.table_list.proofs.visit.Goals as goal
 
 pub returns-in_default : goal.returns-in_default
 returns-in_default c =
-    visited_dummy _ _ _ _ _ _ c.requires (dummy_pointer _ _ c.answer_of-answer.ensures c.in_default.is)
+    visited_dummy _ _ _ _ _ _ c.requires (dummy_pointer _ _ c.answer_of.ensures c.in_default.is)
 
 pub bounds-keys-at : goal.bounds-keys-at
 bounds-keys-at c =
-    visited_inside _ 0 0 c.args.out.now _ _ c.requires _ (live_pointer _ _ _ c.answer_of-answer.ensures c.in-Live.is)
+    visited_inside _ 0 0 c.args.out.now _ _ c.requires _ (live_pointer _ _ _ c.answer_of.ensures c.in-Some.is)
 
 pub returns-then-key-a : goal.returns-then-key-a
 returns-then-key-a c =
-    visited_below _ _ _ _ _ _ c.requires _ (live_pointer _ _ _ c.answer_of-answer.ensures c.in-Live.is) (omega arith)
+    visited_below _ _ _ _ _ _ c.requires _ (live_pointer _ _ _ c.answer_of.ensures c.in-Some.is) (omega arith)
 
 pub returns-then-key-b : goal.returns-then-key-b
 returns-then-key-b c =
-    visited_ended _ _ _ _ _ _ c.requires _ (live_pointer _ _ _ c.answer_of-answer.ensures c.in-Live.is) (omega arith) (omega arith)
+    visited_ended _ _ _ _ _ _ c.requires _ (live_pointer _ _ _ c.answer_of.ensures c.in-Some.is) (omega arith) (omega arith)
 
 pub returns-then-written-out : goal.returns-then-written-out
 returns-then-written-out c =
-    visited_full _ _ _ _ _ _ c.requires _ (live_pointer _ _ _ c.answer_of-answer.ensures c.in-Live.is) (omega arith) (omega arith) (omega arith)
+    visited_full _ _ _ _ _ _ c.requires _ (live_pointer _ _ _ c.answer_of.ensures c.in-Some.is) (omega arith) (omega arith) (omega arith)
 
 pub returns : goal.returns
 returns c =
-    visited_written _ _ _ _ _ _ c.requires _ (live_pointer _ _ _ c.answer_of-answer.ensures c.in-Live.is) (omega arith) (omega arith) (omega arith)
+    visited_written _ _ _ _ _ _ c.requires _ (live_pointer _ _ _ c.answer_of.ensures c.in-Some.is) (omega arith) (omega arith) (omega arith)
