@@ -1,6 +1,6 @@
 -- Figure 11 within one page of level 0: the row that is left. Assumes nothing.
 use mathlib.Core.Path.{◌≡◌, refl, sym, ap, ap₂, ◌∙◌}
-use mathlib.Core.Bool.{Bool, true, false, true≢false}
+use mathlib.Core.Bool.{Bool, true, true≢false}
 use mathlib.Core.Option.{none}
 use mathlib.Core.List.{List, [], ◌∷◌, ◌++◌, append_assoc, map-append}
 use Prim.Native.Nat.{ℕ, suc, ◌+◌, ◌-◌, ◌≤◌, ◌<◌}
@@ -26,10 +26,6 @@ use Rattle.page_change.specs.Changing.{WholePage, with_row, without}
 use Rattle.page_change.proofs.PageChanges.{row_read, row_whole, row_again}
 use Rattle.page_delete.specs.OnePage.{leaf_row, asked_before, Staying, NearPre, FollowedPre, GivePre, NearDone, NearPost, struck_at, StrikePost, DummyPost}
 use Rattle.page_delete.proofs.StayingEntries.{sweep_last, idle_leaves}
-
--- Nothing is changed.
-pub near_none : {e : ℕ} {b : List ℕ} {page at τ₀ : ℕ} {o : Left Entry} → NearPost e b page at τ₀ o b false
-near_none = record { done = λ y. absurd (true≢false (sym y)); none = λ y. refl }
 
 -- The row is left.
 pub near_some : {e : ℕ} {b : List ℕ} {page at τ₀ : ℕ} {o : Left Entry} {b' : List ℕ} → NearDone e b page at τ₀ o b' → NearPost e b page at τ₀ o b' true
@@ -193,22 +189,14 @@ module _ {e : ℕ} {b : List ℕ} {page at d : ℕ} (h : GivePre e b page at d) 
       b'
       (w ∙ ap (with_row e b page) (set_split given at (d, 65535) h.near.inside ∙ sym (append_assoc (take at given) ((d, 65535) ∷ []) (drop (suc at) given))))
 
-  -- It does, between the depths before and behind it,
+  -- It does, between the depths before and behind it.
   pub dummy_some : {τ next : ℕ} → τ ≤ d → d ≤ next → (b' : List ℕ) → b' ≡ with_row e b page (set given at (d, 65535)) → DummyPost e b page at τ next b' true
   dummy_some {τ} {next} g k b' w = record {
     done = λ y τ₀ ν f. record { of_entry = (entry d none ∷ [], Idle); struck = rw (h.depth_is, f, le-ltb d τ g, le-ltb next d k) refl; done = dummy_done b' w };
     none = λ y. absurd (true≢false y);
   }
 
--- or nothing is changed.
-pub dummy_none : {e : ℕ} {b : List ℕ} {page at τ next : ℕ} → DummyPost e b page at τ next b false
-dummy_none = record { done = λ y. absurd (true≢false (sym y)); none = λ y. refl }
-
 -- ---- figure 11 at the entry
-
--- Nothing is changed.
-pub strike_none : {e : ℕ} {b : List ℕ} {page at τ τ₀ : ℕ} → StrikePost e b page at τ τ₀ b false
-strike_none = record { done = λ y. absurd (true≢false (sym y)); none = λ y. refl }
 
 module _ {e : ℕ} {b : List ℕ} {page at : ℕ} (h : NearPre e b page at) where
   abbrev entries : List Ref

@@ -1,12 +1,10 @@
 -- The entries of a page of level 0 that stay where dummies go from the right. Assumes nothing.
 use mathlib.Core.Path.{◌≡◌, refl, sym, ap, ap₂, ◌∙◌}
-use mathlib.Core.Bool.{false}
 use mathlib.Core.List.{List, [], ◌∷◌, ◌++◌, append_assoc, map-append}
-use Prim.Native.Nat.{ℕ, zero, suc, ◌-◌, ◌≤◌, ◌<◌}
+use Prim.Native.Nat.{ℕ, zero, suc, ◌+◌, ◌-◌, ◌≤◌, ◌<◌}
 use native.Mathlib.Omega.{arith}
-use lib.Dec.{ltb}
 use lib.ListN.{length, take}
-use borrow.Author.Tests.{ltb-false, lt-ltb, le-ltb, eq-eqb, ne_eqb}
+use borrow.Author.Tests.{lt-ltb, le-ltb, eq-eqb, ne_eqb}
 use Rattle.leaf_list.specs.Entries.{Entry}
 use Rattle.page_tree.specs.declared.Unwind.{Unwind}
 use Rattle.page_tree.specs.declared.Unwind.TheVariants.{Idle, Clear}
@@ -15,7 +13,6 @@ use Rattle.page_tree.proofs.WalkPlaces.{sweep_append}
 use Rattle.index_table.specs.Layout.{layout_of, Ref, page_bytes, ref_at}
 use Rattle.index_table.specs.Pages.{pages_at, leaf_of}
 use Rattle.index_table.proofs.PageRows.{length_refs, take_refs}
-use Rattle.entry_delete.specs.Entries.{Calm}
 use Rattle.page_delete.specs.OnePage.{leaf_row, asked_before, Staying}
 
 -- ---- one entry on the way back
@@ -51,29 +48,10 @@ pub record Going (row : List Ref) (n g i : ℕ) : Type 0 where
   pub few : i ≤ n
   pub gone : (ys : List Entry) → sweep step_entry (Clear g) (leaf_row (take n row)) ys ≡ sweep step_entry (Clear g) (leaf_row (take i row)) ys
 
--- None is passed yet.
-pub going_none : (row : List Ref) (n g : ℕ) → Going row n g n
-going_none row n g = record { few = omega arith; gone = λ ys. refl }
-
--- All have gone.
-pub going_all : {row : List Ref} {n g i : ℕ} → Going row n g i → i ≤ 0 → Staying row n g i
-going_all {i = zero} h z = record { few = h.few; swept = h.gone }
-going_all {i = suc i} h z = absurd (omega arith)
-
 -- An entry that stays is the last that is asked.
 asked_some : (g r : ℕ) → 1 ≤ r → asked_before g r ≡ Idle
 asked_some g zero l = absurd (omega arith)
 asked_some g (suc r) l = refl
-
--- Where an entry of the page stays, the page before is asked nothing,
-pub some_calm : (τ g r : ℕ) → 1 ≤ r → Calm τ (asked_before g r)
-some_calm τ g zero l = absurd (omega arith)
-some_calm τ g (suc r) l = tt
-
--- and where none does, nothing there changes if it ends at a depth that is not above g.
-pub low_calm : (τ g r : ℕ) {d : ℕ} → d ≡ g → ltb d τ ≡ false → Calm τ (asked_before g r)
-low_calm τ g zero {d} z l = omega (arith, z, ltb-false d τ l)
-low_calm τ g (suc r) z l = tt
 
 module _ (e : ℕ) (b : List ℕ) (p : ℕ) {n g i : ℕ} (h : Going (pages_at (layout_of e) b p) n g i) (some : 0 < i) (inside : n ≤ length (pages_at (layout_of e) b p)) where
   abbrev page : List ℕ
@@ -95,8 +73,8 @@ module _ (e : ℕ) (b : List ℕ) (p : ℕ) {n g i : ℕ} (h : Going (pages_at (
         ∙ sweep_last (Clear g) (take (i - 1) (pages_at (layout_of e) b p)) x ys ([], Clear g) (dummy_goes g x (sym q ∙ z) (omega (arith, d, l)));
   }
 
-  stays : step_entry (Clear g) (leaf_of 65535 x) ≡ (leaf_of 65535 x ∷ [], Idle) → Staying (pages_at (layout_of e) b p) n g i
-  stays s = record {
+  stays : step_entry (Clear g) (leaf_of 65535 x) ≡ (leaf_of 65535 x ∷ [], Idle) → Staying (pages_at (layout_of e) b p) n g (i - 1 + 1)
+  stays s = rw (let z : i - 1 + 1 ≡ i = omega (arith, some) in z) (record {
     few = h.few;
     swept = λ ys.
         h.gone ys ∙ ap (λ (r : List Ref). sweep step_entry (Clear g) (leaf_row r) ys) last_is
@@ -106,12 +84,12 @@ module _ (e : ℕ) (b : List ℕ) (p : ℕ) {n g i : ℕ} (h : Going (pages_at (
         (sym (append_assoc (leaf_row (take (i - 1) (pages_at (layout_of e) b p))) (leaf_of 65535 x ∷ []) ys)
         ∙ ap (λ (r : List Entry). r ++ ys) (sym (map-append (leaf_of 65535) (take (i - 1) (pages_at (layout_of e) b p)) (x ∷ [])) ∙ ap leaf_row (sym last_is)))
         (sym (asked_some g i (omega arith)));
-  }
+  })
 
   -- A live entry stays.
-  pub going_live : {q : ℕ} → q ≡ x.1 → (q ≡ 65535 → ⊥) → Staying (pages_at (layout_of e) b p) n g i
+  pub going_live : {q : ℕ} → q ≡ x.1 → (q ≡ 65535 → ⊥) → Staying (pages_at (layout_of e) b p) n g (i - 1 + 1)
   going_live q n = stays (live_stays g x (λ z. n (q ∙ z)))
 
   -- A dummy that is not deeper stays.
-  pub going_shallow : {q d : ℕ} → q ≡ x.1 → q ≡ 65535 → d ≡ x.0 → d ≤ g → Staying (pages_at (layout_of e) b p) n g i
+  pub going_shallow : {q d : ℕ} → q ≡ x.1 → q ≡ 65535 → d ≡ x.0 → d ≤ g → Staying (pages_at (layout_of e) b p) n g (i - 1 + 1)
   going_shallow q z d l = stays (shallow_stays g x (sym q ∙ z) (omega (arith, d, l)))

@@ -8,7 +8,7 @@ ghost use Rattle.index_table.specs.Pages.{pages_at};
 ghost use Rattle.entry_delete.specs.Entries.{Calm};
 ghost use Rattle.page_delete.specs.OnePage.{asked_before, Staying, NearPre, FollowedPre, GivePre, NearPost, StrikePost, DummyPost};
 
-use index_table::layout::{PageNo, count, deep, depth, pointer, wide};
+use index_table::layout::{PageNo, count, depth, pointer};
 use page_change::close::{close, replace_entry};
 
 // How many of the first n entries of a page stay, where dummies deeper than `than` go from the right.
@@ -16,28 +16,19 @@ fn staying(index: &[u8], e: u8, page: PageNo, n: usize, than: u8) -> usize
     requires { Within (layout_of e) index.now page.0 × (n ≤ length (pages_at (layout_of e) index.now page.0)) × (n ≤ e) }
     ensures { Staying (pages_at (layout_of e) index.now page.0) n than result }
 {
-    let mut i = n;
-    while 0 < i {
-        let last = i - 1;
-        if pointer(index, e, page, last) != 65535 {
-            return i;
+    for i in (0..n).rev() {
+        if pointer(index, e, page, i) != 65535 || depth(index, e, page, i) <= than {
+            return i + 1;
         }
-        if depth(index, e, page, last) <= than {
-            return i;
-        }
-        i = last;
     }
-    i
+    0
 }
 
 // Whether dummies deeper than g may go in the page before, which ends at the depth `before`, where the first `from` entries of a page stay.
 fn reaches_back(from: usize, before: u64, g: u8) -> bool
     ensures { result ≡ false → Calm before (asked_before g from) }
 {
-    if 0 < from {
-        return false;
-    }
-    deep(g) < before
+    from == 0 && u64::from(g) < before
 }
 
 // A 1-leaf goes: the entry before it takes its depth d, and dummies deeper than d before that one go.
@@ -86,10 +77,10 @@ pub fn strike_near(
     ensures { StrikePost e index.old page.0 at trail before index.new result }
 {
     let d = depth(index, e, page, at);
-    if deep(d) < trail {
+    if u64::from(d) < trail {
         return give_near(index, e, page, at, before, d);
     }
-    if wide(count(index, e, page)) <= at + 1 {
+    if usize::from(count(index, e, page)) <= at + 1 {
         return false;
     }
     let next = depth(index, e, page, at + 1);
@@ -113,10 +104,7 @@ pub fn blank_entry(
     requires { GivePre e index.old page.0 at d }
     ensures { DummyPost e index.old page.0 at trail next index.new result }
 {
-    if deep(d) < trail {
-        return false;
-    }
-    if next < d {
+    if u64::from(d) < trail || next < d {
         return false;
     }
     replace_entry(index, e, page, at, d, 65535);

@@ -7,7 +7,7 @@ ghost use Rattle.page_tree.specs.Row.{depth_of, row_of, part_of, Holds, SplitPos
 
 // What deletion asks of the entry before, on its way back to the left: nothing; to take a depth;
 // to go where it is a dummy deeper than a depth.
-#[derive(Clone, Copy)]
+#[derive(Clone, Copy, Debug, PartialEq, Eq)]
 pub enum Unwind {
     Idle,
     Give(u8),

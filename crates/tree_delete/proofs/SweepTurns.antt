@@ -6,8 +6,8 @@ use native.Mathlib.Omega.{arith}
 use lib.ListN.{length, get_or, take, drop}
 use lib.Seq.{take-suc}
 use Rattle.page_tree.specs.Rows.{All, sum}
-use Rattle.page_tree.specs.Row.{row_of, Holds}
 use Rattle.page_tree.specs.declared.Row.{Row}
+use Rattle.page_tree.specs.Row.{row_of, Holds}
 use Rattle.page_tree.specs.declared.Unwind.{Unwind}
 use Rattle.page_tree.specs.declared.Unwind.TheVariants.{Idle}
 use Rattle.page_tree.specs.OffPages.{Left, sweep}
@@ -19,7 +19,6 @@ use Rattle.index_table.specs.Pages.{pages_at, numbered_at, met, met_all}
 use Rattle.index_table.proofs.Frames.{UnchangedRow}
 use Rattle.index_write.specs.Standing.{Owned}
 use Rattle.entry_delete.specs.declared.Remnant.{Remnant}
-use Rattle.tree_delete.specs.declared.rows.Slot.{Slot}
 use Rattle.tree_delete.specs.Keeping.{numbers_at, Linked, Paged, Kept}
 use Rattle.entry_delete.specs.Entries.{parts}
 use Rattle.tree_delete.specs.Rows.{around, PutPost}
@@ -50,6 +49,10 @@ mid_back {e} {P} {n} {b} xs y ys t g o = record {
 -- A table of the same length has the same pages.
 pub paged_then : {e P : ℕ} {b b' : List ℕ} → length b' ≡ length b → Paged e P b → Paged e P b'
 paged_then l t = record { table = l ∙ t.table; high = t.high }
+
+-- An entry that is read by its parts.
+pub entry_read : {d p : ℕ} {y : Ref} → d ≡ y.0 → p ≡ y.1 → ◌≡◌ {A = Ref} (d, p) y
+entry_read f g = ap₂ (λ (s t : ℕ). (s, t)) f g
 
 -- ---- the loop
 
@@ -85,16 +88,12 @@ module _ {e P n : ℕ} {b₀ : List ℕ} {row₀ : Row} {i₀ w₀ : ℕ} {s₀ 
   abbrev after : List Ref
   after = drop w (row_of row)
 
-  -- the parts that stay can be joined.
-  pub sweep_joined : (i ≤ w) × (w ≤ row.count) × (row.count ≤ 319)
-  sweep_joined = (h.left, h.right, omega (arith, h.count, h.pre.small))
-
   owned : Owned L b (met_all n (pages_at L b) (around row i w))
   owned = kept_owned h.kept h.pre.own
 
   -- Nothing more is to be done.
   sweep_end : (all : Row) → Holds all (i + (row.count - w)) (around row i w) → (numbers_at n (pages_at L b) (around row i w), s) ≡ sweep_at e n b row i w s
-      → SweepPost e P n b₀ row₀ i₀ w₀ s₀ b (record { row = all; state = s })
+      → SweepPost e P n b₀ row₀ i₀ w₀ s₀ b all s
   sweep_end all a z =
       let t : (numbers_at n (pages_at L b) (around row i w), s) ≡ sweep_at e n b₀ row₀ i₀ w₀ s₀ = z ∙ h.whole in
       record {
@@ -105,17 +104,17 @@ module _ {e P n : ℕ} {b₀ : List ℕ} {row₀ : Row} {i₀ w₀ : ℕ} {s₀ 
       }
 
   -- Nothing is asked,
-  pub sweep_idle : (all : Row) → Holds all (i + (row.count - w)) (around row i w) → s ≡ Idle → SweepPost e P n b₀ row₀ i₀ w₀ s₀ b (record { row = all; state = s })
-  sweep_idle all a z =
-      sweep_end all a
+  pub sweep_idle : (all : Row) {j : ℕ} → j ≡ i → Holds all (j + (row.count - w)) (around row j w) → s ≡ Idle → SweepPost e P n b₀ row₀ i₀ w₀ s₀ b all s
+  sweep_idle all y a z =
+      sweep_end all (rw y at a)
       (rw z (ap (λ (l : List (Numbered n)). (l, Idle)) (map-append (numbered_at 65535 n (pages_at L b)) before after)
       ∙ sym (idle_row L P b n before (all_left (Linked L P n b) before after h.kept.linked) (numbers_at n (pages_at L b) after))))
 
   -- or no entry is left.
-  pub sweep_out : (all : Row) → Holds all (i + (row.count - w)) (around row i w) → i ≡ 0 → SweepPost e P n b₀ row₀ i₀ w₀ s₀ b (record { row = all; state = s })
-  sweep_out all a z =
+  pub sweep_out : (all : Row) → i ≡ 0 → Holds all (0 + (row.count - w)) (around row 0 w) → SweepPost e P n b₀ row₀ i₀ w₀ s₀ b all s
+  sweep_out all z a =
       let p : before ≡ [] = ap (λ (k : ℕ). take k (row_of row)) z in
-      sweep_end all a (rw p refl)
+      sweep_end all (rw z a) (rw p refl)
 
   module _ (pos : 0 < i) where
     abbrev front : List Ref
@@ -123,10 +122,6 @@ module _ {e P n : ℕ} {b₀ : List ℕ} {row₀ : Row} {i₀ w₀ : ℕ} {s₀ 
 
     abbrev y : Ref
     y = get_or (row_of row) (i - 1) (0, 0)
-
-    -- The next entry can be read,
-    pub sweep_read : (i - 1 < row.count) × (row.count ≤ 319)
-    sweep_read = (omega (arith, h.left, h.right), omega (arith, h.count, h.pre.small))
 
     before_is : before ≡ front ++ y ∷ []
     before_is = ap (λ (k : ℕ). take k (row_of row)) (let z : i ≡ suc (i - 1) = omega arith in z) ∙ take-suc (row_of row) (i - 1) (0, 0) (omega (arith, h.full, h.left, h.right))
@@ -140,25 +135,25 @@ module _ {e P n : ℕ} {b₀ : List ℕ} {row₀ : Row} {i₀ w₀ : ℕ} {s₀ 
     owned' : Owned L b (met_all n (pages_at L b) (front ++ y ∷ after))
     owned' = rw around_is at owned
 
-    -- passed with all below it,
-    pub sweep_back : (d p : ℕ) → d ≡ y.0 → p ≡ y.1 → BackPre e P n b (d, p)
-    sweep_back d p f g = rw (f, g) (mid_back front y after (paged_then h.kept.long h.pre.paged) linked' owned')
+    -- The next entry can be passed with all below it,
+    pub sweep_back : {z : Ref} → z ≡ y → BackPre e P n b z
+    sweep_back f = rw f (mid_back front y after (paged_then h.kept.long h.pre.paged) linked' owned')
 
     -- and what is left of it put before those that are done.
     pub sweep_put : (1 ≤ w) × (w ≤ row.count) × (row.count ≤ 319)
     sweep_put = (omega (arith, h.left), h.right, omega (arith, h.count, h.pre.small))
 
-    module _ (d p : ℕ) (df : d ≡ y.0) (pf : p ≡ y.1) (b' : List ℕ) (r : Remnant) (g' : BackPost e P n b (d, p) s b' r) (slot : Slot) (put : PutPost row w r slot) where
+    module _ {z : Ref} (f : z ≡ y) (b' : List ℕ) (r : Remnant) (g' : BackPost e P n b z s b' r) (row' : Row) (w' : ℕ) (put : PutPost row w r.left row' w') where
       g : BackPost e P n b y s b' r
-      g = rw (df, pf) at g'
+      g = rw f at g'
 
-      front_kept : take (i - 1) (row_of slot.row) ≡ front
+      front_kept : take (i - 1) (row_of row') ≡ front
       front_kept = put.left (i - 1) (omega (arith, h.left))
 
-      now_is : around slot.row (i - 1) slot.at ≡ front ++ (parts r ++ after)
+      now_is : around row' (i - 1) w' ≡ front ++ (parts r ++ after)
       now_is = ap₂ (λ (l m : List Ref). l ++ m) front_kept put.right
 
-      one_kept : Kept L P n b (met_all n (pages_at L b) (around row i w)) b' (around slot.row (i - 1) slot.at)
+      one_kept : Kept L P n b (met_all n (pages_at L b) (around row i w)) b' (around row' (i - 1) w')
       one_kept = rw (around_is, now_is) (kept_at L P n b front (y ∷ []) after owned' linked' b' (parts r) (kept_one y g.kept))
 
       fronts : UnchangedRow L n b b' front
@@ -167,7 +162,7 @@ module _ {e P n : ℕ} {b₀ : List ℕ} {row₀ : Row} {i₀ w₀ : ℕ} {s₀ 
       afters : UnchangedRow L n b b' after
       afters = after_stays L P n b front (y ∷ []) after owned' linked' b' (parts r) (kept_one y g.kept)
 
-      turned : sweep_at e n b' slot.row (i - 1) slot.at r.state ≡ sweep_at e n b row i w s
+      turned : sweep_at e n b' row' (i - 1) w' r.state ≡ sweep_at e n b row i w s
       turned =
           ap₂ (λ (l m : List Ref). sweep (step_numbered n) r.state (numbers_at n (pages_at L b') l) (numbers_at n (pages_at L b') m)) front_kept put.right
           ∙ ap₂ (λ (l m : List (Numbered n)). sweep (step_numbered n) r.state l m) (fronts.numbereds 65535)
@@ -178,7 +173,7 @@ module _ {e P n : ℕ} {b₀ : List ℕ} {row₀ : Row} {i₀ w₀ : ℕ} {s₀ 
           (sym (map-append (numbered_at 65535 n (pages_at L b)) front (y ∷ [])) ∙ ap (numbers_at n (pages_at L b)) (sym before_is))
 
       -- So the loop goes on.
-      pub sweep_step : Sweeping e P n b₀ row₀ i₀ w₀ s₀ b' slot.row (i - 1) slot.at r.state
+      pub sweep_step : Sweeping e P n b₀ row₀ i₀ w₀ s₀ b' row' (i - 1) w' r.state
       sweep_step = record {
         pre = h.pre;
         count = put.count ∙ h.count;

@@ -17,7 +17,8 @@ use Rattle.index_table.specs.Pages.{Pages, pages_at, leaf_of, numbered_at, met, 
 use Rattle.index_table.proofs.PageBytes.{within_table}
 use Rattle.index_write.specs.Standing.{Owned}
 use Rattle.entry_delete.specs.declared.Remnant.{Remnant}
-use Rattle.tree_delete.specs.declared.rows.Swept.{Swept}
+use Rattle.std.specs.Prelude.{Option}
+use Rattle.page_tree.specs.declared.Entry.{Entry as Stored}
 use Rattle.tree_delete.specs.Keeping.{numbers_at, Linked, Paged, Kept}
 use Rattle.entry_delete.specs.Entries.{parts, Turned}
 use Rattle.tree_delete.specs.Rows.{around, SettlePre, SettlePost}
@@ -108,48 +109,48 @@ linked_fits e P zero b (x ∷ row) h g = (g.0, linked_fits e P zero b row h g.1)
 linked_fits e P (suc n) b (x ∷ row) h g = (omega (arith, g.0.0.number), linked_fits e P (suc n) b row h g.1)
 
 -- The page is settled after a change of its row.
-pub down_settle : (n : ℕ) {e P : ℕ} {b : List ℕ} {x : Ref} {m i w : ℕ} {s : Unwind} {row : Row} {b₀ : List ℕ} (p : ℕ) (b₁ : List ℕ) (done : Swept) → p ≡ x.1 → (n ≡ 0 → ⊥) → BackPre e P n b x
+pub down_settle : (n : ℕ) {e P : ℕ} {b : List ℕ} {x : Ref} {m i w : ℕ} {s : Unwind} {row : Row} {b₀ : List ℕ} (p : ℕ) (b₁ : List ℕ) (row' : Row) {s' : Unwind} → p ≡ x.1 → (n ≡ 0 → ⊥) → BackPre e P n b x
     → row.count ≡ length (pages_at (layout_of e) b p)
-    → length b₀ ≡ length b → SweepPost e P m b₀ row i w s b₁ done → SettlePre e b₁ p done
-down_settle zero p b₁ done y ne h i l f = absurd (ne refl)
-down_settle (suc n) {e} {P} {b} {x} {m} p b₁ done y ne h i l f =
+    → length b₀ ≡ length b → SweepPost e P m b₀ row i w s b₁ row' s' → SettlePre e b₁ p row'
+down_settle zero p b₁ row' y ne h i l f = absurd (ne refl)
+down_settle (suc n) {e} {P} {b} {x} {m} p b₁ row' y ne h i l f =
     let r = paged_within x.1 h.paged h.linked.0.number in
     rw y (record {
       within = omega (arith, l, f.kept.long, r);
       few = omega (arith, f.few, i, (rw (← y) at h.linked.0.few));
-      fitting = linked_fits e P m b₁ (row_of done.row) h.paged.high f.kept.linked;
+      fitting = linked_fits e P m b₁ (row_of row') h.paged.high f.kept.linked;
     })
 
 -- What is left of the entry, once its page is settled.
-pub up_done : {e P n : ℕ} {b : List ℕ} {x : Ref} (h : BackPre e P (suc n) b x) (o : Left (Numbered n)) (b₁ : List ℕ) (done : Swept)
-    → Kept (layout_of e) P n b (met_all n (pages_at (layout_of e) b) (pages_at (layout_of e) b x.1)) b₁ (row_of done.row)
-    → numbers_at n (pages_at (layout_of e) b₁) (row_of done.row) ≡ o.0 → done.state ≡ o.1 → done.row.count ≤ e → (b₂ : List ℕ) (r : Remnant) → SettlePost e n b₁ x.1 done b₂ r
-    → Done e P (suc n) b x (kept_under x.1 o.0, o.1) b₂ r
-up_done {e} {P} {n} {b} {x} h o b₁ done k t s f b₂ r g =
+pub up_done : {e P n : ℕ} {b : List ℕ} {x : Ref} (h : BackPre e P (suc n) b x) (o : Left (Numbered n)) (b₁ : List ℕ) (row' : Row) (s' : Unwind)
+    → Kept (layout_of e) P n b (met_all n (pages_at (layout_of e) b) (pages_at (layout_of e) b x.1)) b₁ (row_of row')
+    → numbers_at n (pages_at (layout_of e) b₁) (row_of row') ≡ o.0 → s' ≡ o.1 → row'.count ≤ e → (b₂ : List ℕ) (left : Option Stored) → SettlePost e n b₁ x.1 row' b₂ left
+    → Done e P (suc n) b x (kept_under x.1 o.0, o.1) b₂ (record { left = left; state = s' })
+up_done {e} {P} {n} {b} {x} h o b₁ row' s' k t s f b₂ left g =
     let within : Within (layout_of e) b₁ x.1 = (let w = paged_within x.1 h.paged h.linked.0.number in omega (arith, k.long, w)) in
-    let few : length (row_of done.row) ≤ e = omega (arith, f, length-take done.row.count (mathlib.Core.List.zip done.row.depths done.row.pointers)) in
-    let fit = linked_fits e P n b₁ (row_of done.row) h.paged.high k.linked in
+    let few : length (row_of row') ≤ e = omega (arith, f, length-take row'.count (mathlib.Core.List.zip row'.depths row'.pointers)) in
+    let fit = linked_fits e P n b₁ (row_of row') h.paged.high k.linked in
     record {
-      kept = rw (g.bytes, g.entries) (settled_kept e P n b x h.linked.0.number h.own b₁ (row_of done.row) k within few fit);
-      numbers = rw (g.bytes, g.entries) (settled_numbers e P n b x h.linked.0.number h.own b₁ (row_of done.row) k within few fit ∙ ap (kept_under x.1) t);
-      state = g.state ∙ s;
+      kept = rw (g.bytes, g.entries) (settled_kept e P n b x h.linked.0.number h.own b₁ (row_of row') k within few fit);
+      numbers = rw (g.bytes, g.entries) (settled_numbers e P n b x h.linked.0.number h.own b₁ (row_of row') k within few fit ∙ ap (kept_under x.1) t);
+      state = s;
     }
 
 -- An entry is passed with all below it.
 pub back_up : (n : ℕ) {e P : ℕ} {b : List ℕ} {x : Ref} (s : Unwind) (p : ℕ) (row : Row) → p ≡ x.1 → (n ≡ 0 → ⊥) → BackPre e P n b x
-    → Holds row (length (pages_at (layout_of e) b p)) (pages_at (layout_of e) b p) → (b₁ : List ℕ) (done : Swept)
-    → SweepPost e P (n - 1) b row row.count row.count s b₁ done → (b₂ : List ℕ) (r : Remnant) → SettlePost e (n - 1) b₁ p done b₂ r → BackPost e P n b x s b₂ r
+    → Holds row (length (pages_at (layout_of e) b p)) (pages_at (layout_of e) b p) → (b₁ : List ℕ) (row' : Row) (s' : Unwind)
+    → SweepPost e P (n - 1) b row row.count row.count s b₁ row' s' → (b₂ : List ℕ) (left : Option Stored) → SettlePost e (n - 1) b₁ p row' b₂ left → BackPost e P n b x s b₂ (record { left = left; state = s' })
 unfolding numbered_at
-back_up zero s p row y ne h i b₁ done k b₂ r g = absurd (ne refl)
-back_up (suc n) {e} {P} {b} {x} s p row y ne h i' b₁ done k b₂ r g =
+back_up zero s p row y ne h i b₁ row' s' k b₂ left g = absurd (ne refl)
+back_up (suc n) {e} {P} {b} {x} s p row y ne h i' b₁ row' s' k b₂ left g =
     let m : suc n - 1 ≡ n = omega arith in
     let i : Holds row (length (pages_at (layout_of e) b x.1)) (pages_at (layout_of e) b x.1) = rw y at i' in
-    let k' : SweepPost e P n b row row.count row.count s b₁ done = rw m at k in
-    let g' : SettlePost e n b₁ x.1 done b₂ r = rw (m, y) at g in
+    let k' : SweepPost e P n b row row.count row.count s b₁ row' s' = rw m at k in
+    let g' : SettlePost e n b₁ x.1 row' b₂ left = rw (m, y) at g in
     let a = around_all row (pages_at (layout_of e) b x.1) i in
     let w = whole_row row (pages_at (layout_of e) b x.1) i in
     let v : sweep_at e n b row row.count row.count s ≡ sweep (step_numbered n) s (numbers_at n (pages_at (layout_of e) b) (pages_at (layout_of e) b x.1)) [] =
     ap₂ (λ (l m : List Ref). sweep (step_numbered n) s (numbers_at n (pages_at (layout_of e) b) l) (numbers_at n (pages_at (layout_of e) b) m)) w.0 w.1 in
-    up_done h (sweep (step_numbered n) s (numbers_at n (pages_at (layout_of e) b) (pages_at (layout_of e) b x.1)) []) b₁ done (rw a at k'.kept) (k'.numbers ∙ ap (λ (o : Left (Numbered n)). o.0) v)
+    up_done h (sweep (step_numbered n) s (numbers_at n (pages_at (layout_of e) b) (pages_at (layout_of e) b x.1)) []) b₁ row' s' (rw a at k'.kept) (k'.numbers ∙ ap (λ (o : Left (Numbered n)). o.0) v)
     (k'.state ∙ ap (λ (o : Left (Numbered n)). o.1) v)
-    (omega (arith, k'.few, i.count, h.linked.0.few)) b₂ r g'
+    (omega (arith, k'.few, i.count, h.linked.0.few)) b₂ left g'

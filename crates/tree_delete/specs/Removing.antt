@@ -1,18 +1,16 @@
 -- Removal below an entry: down to the entry that figure 6 finds, and back to the left. Assumes nothing.
-use Rattle.std.specs.Prelude.{◌≡◌, List, ◌++◌, map, ℕ, suc, ◌+◌, ◌^◌, ◌≤◌, ◌<◌, length, drop}
+use Rattle.std.specs.Prelude.{◌≡◌, List, ◌++◌, map, ℕ, ◌+◌, ◌^◌, ◌≤◌, ◌<◌}
 use Rattle.leaf_list.specs.Entries.{Entry}
 use Rattle.leaf_list.specs.Depths.{LeafDepths}
 use Rattle.page_tree.specs.Rows.{All, flats}
-use Rattle.page_tree.specs.Row.{Holds}
 use Rattle.page_tree.specs.Tree.{leaves}
 use Rattle.page_tree.specs.OffPages.{next_depth}
 use Rattle.page_tree.specs.Numbered.{delete_numbered}
 use Rattle.index_table.specs.Layout.{layout_of, Ref}
 use Rattle.index_table.specs.Pages.{Pages, pages_at, node_at, numbered_at}
 use Rattle.index_table.specs.Soundness.{SizedPage, SoundBelow}
-use Rattle.table_search.specs.Places.{left_from, Stopped}
+use Rattle.table_search.specs.Places.{left_from}
 use Rattle.entry_delete.specs.declared.Remnant.{Remnant}
-use Rattle.tree_delete.specs.declared.removal.Place.{Place}
 use Rattle.tree_delete.specs.Keeping.{Linked, Paged}
 use Rattle.tree_delete.specs.Unwinding.{BackPre, Done}
 
@@ -44,12 +42,6 @@ pub record RemovePre (e P n : ℕ) (b : List ℕ) (x : Ref) (w key position : �
   pub width : w ≤ 64
   pub narrow : key < 2 ^ w
   pub high : position ≤ w + 1
-
--- The row of a page, the place where figure 6 stops in it, and the depth that follows that place on level 0.
-pub record LocatePost (e n : ℕ) (b : List ℕ) (page w key position τ ν : ℕ) (r : Place) : Type 0 where
-  pub row : Holds r.row (length (pages_at (layout_of e) b page)) (pages_at (layout_of e) b page)
-  pub stopped : Stopped w key position τ (pages_at (layout_of e) b page) r.spot
-  pub following : r.next ≡ following_at n (pages_at (layout_of e) b) ν (drop (suc r.spot.at) (pages_at (layout_of e) b page))
 
 -- Figure 11 below an entry, between the depths τ and ν.
 abbrev pub RemovePost : (e P n : ℕ) (b : List ℕ) (x : Ref) (w key position τ ν : ℕ) (b' : List ℕ) (r : Remnant) → Type 0

@@ -10,7 +10,6 @@ use Rattle.index_table.specs.Layout.{layout_of, Ref}
 use Rattle.index_table.specs.Pages.{pages_at, numbered_at, met, met_all}
 use Rattle.index_write.specs.Standing.{Owned}
 use Rattle.entry_delete.specs.declared.Remnant.{Remnant}
-use Rattle.tree_delete.specs.declared.rows.Swept.{Swept}
 use Rattle.tree_delete.specs.Keeping.{numbers_at, Linked, Paged, Kept}
 use Rattle.entry_delete.specs.Entries.{parts}
 use Rattle.tree_delete.specs.Rows.{around}
@@ -45,9 +44,9 @@ pub record SweepPre (e P n : ℕ) (b : List ℕ) (row : Row) (i w : ℕ) : Type 
 abbrev pub sweep_at : (e n : ℕ) (b : List ℕ) (row : Row) (i w : ℕ) (s : Unwind) → Left (Numbered n)
 sweep_at e n b row i w s = sweep (step_numbered n) s (numbers_at n (pages_at (layout_of e) b) (take i (row_of row))) (numbers_at n (pages_at (layout_of e) b) (drop w (row_of row)))
 
--- The row that is left.
-pub record SweepPost (e P n : ℕ) (b : List ℕ) (row : Row) (i w : ℕ) (s : Unwind) (b' : List ℕ) (r : Swept) : Type 0 where
-  pub kept : Kept (layout_of e) P n b (met_all n (pages_at (layout_of e) b) (around row i w)) b' (row_of r.row)
-  pub numbers : numbers_at n (pages_at (layout_of e) b') (row_of r.row) ≡ (sweep_at e n b row i w s).0
-  pub state : r.state ≡ (sweep_at e n b row i w s).1
-  pub few : r.row.count ≤ row.count
+-- The row that is left, and what is asked of the entry before it.
+pub record SweepPost (e P n : ℕ) (b : List ℕ) (row : Row) (i w : ℕ) (s : Unwind) (b' : List ℕ) (row' : Row) (s' : Unwind) : Type 0 where
+  pub kept : Kept (layout_of e) P n b (met_all n (pages_at (layout_of e) b) (around row i w)) b' (row_of row')
+  pub numbers : numbers_at n (pages_at (layout_of e) b') (row_of row') ≡ (sweep_at e n b row i w s).0
+  pub state : s' ≡ (sweep_at e n b row i w s).1
+  pub few : row'.count ≤ row.count

@@ -1,37 +1,31 @@
 // Down to the entry that figure 6 finds, with the depths before and after it, and back.
-ghost use Rattle.std.specs.Prelude.{◌≡◌, suc, drop};
+ghost use Rattle.std.specs.Prelude.{◌≡◌, drop};
 ghost use Rattle.index_table.specs.Layout.{layout_of};
 ghost use Rattle.index_table.specs.Pages.{pages_at};
-ghost use Rattle.tree_delete.specs.Removing.{FirstPre, FirstPost, AfterPre, following_at, RemovePre, LocatePost, RemovePost};
+ghost use Rattle.tree_delete.specs.Removing.{FirstPre, FirstPost, AfterPre, following_at, RemovePre, RemovePost};
 
-use crate::rows::{page_of, put, settle};
+use crate::rows::{put, settle};
 use crate::unwinding::sweep;
 use entry_delete::{Remnant, strike};
-use index_table::layout::{PageNo, count, depth, pointer, wide};
+use index_table::layout::{PageNo, count, depth, pointer};
 use index_write::rows::load_page;
-use page_tree::Row;
-use table_search::{Spot, seek};
-
-// The row of a page, the place found in it, and the depth that follows that place on level 0.
-#[derive(Clone, Copy)]
-pub struct Place {
-    pub row: Row,
-    pub spot: Spot,
-    pub next: u8,
-}
+use page_tree::Entry;
+use table_search::seek;
 
 // The depth of the first entry on level 0 below an entry.
-fn first_depth(index: &[u8], e: u8, pages: u16, rank: u8, d: u8, p: u32) -> u8
-    requires { FirstPre e pages rank index.now (d, p) }
-    ensures { FirstPost rank (pages_at (layout_of e) index.now) (d, p) result }
+fn first_depth(index: &[u8], e: u8, pages: u16, rank: u8, entry: Entry) -> u8
+    requires { FirstPre e pages rank index.now (entry.depth, entry.pointer) }
+    ensures { FirstPost rank (pages_at (layout_of e) index.now) (entry.depth, entry.pointer) result }
 {
     if rank == 0 {
-        return d;
+        return entry.depth;
     }
-    let page = page_of(p);
-    let first = depth(index, e, page, 0);
-    let below = pointer(index, e, page, 0);
-    first_depth(index, e, pages, rank - 1, first, below)
+    let page = PageNo::from_pointer(entry.pointer);
+    let first = Entry {
+        depth: depth(index, e, page, 0),
+        pointer: pointer(index, e, page, 0),
+    };
+    first_depth(index, e, pages, rank - 1, first)
 }
 
 // The depth on level 0 that follows the first i entries of a page of a level, where `next` follows the page.
@@ -39,39 +33,14 @@ pub fn after(index: &[u8], e: u8, pages: u16, level: u8, page: PageNo, i: usize,
     requires { AfterPre e pages level index.now page.0 }
     ensures { result ≡ following_at level (pages_at (layout_of e) index.now) next (drop i (pages_at (layout_of e) index.now page.0)) }
 {
-    if i < wide(count(index, e, page)) {
-        let d = depth(index, e, page, i);
-        let p = pointer(index, e, page, i);
-        return first_depth(index, e, pages, level, d, p);
+    if usize::from(count(index, e, page)) <= i {
+        return next;
     }
-    next
-}
-
-// The place to go down to, in the page that an entry of rank + 1 points at.
-fn locate(
-    index: &[u8],
-    e: u8,
-    pages: u16,
-    rank: u8,
-    d: u8,
-    page: PageNo,
-    w: u64,
-    key: u64,
-    position: u64,
-    trail: u64,
-    next: u8,
-) -> Place
-    requires { RemovePre e pages (suc rank) index.now (d, page.0) w key position }
-    ensures { LocatePost e rank index.now page.0 w key position trail next result }
-{
-    let row = load_page(index, e, page);
-    let spot = seek(index, e, page, w, key, position, trail);
-    let follows = after(index, e, pages, rank, page, spot.at + 1, next);
-    Place {
-        row: row,
-        spot: spot,
-        next: follows,
-    }
+    let entry = Entry {
+        depth: depth(index, e, page, i),
+        pointer: pointer(index, e, page, i),
+    };
+    first_depth(index, e, pages, level, entry)
 }
 
 // Figure 11 below an entry of a rank: down to the entry found, and back to the left.
@@ -80,53 +49,43 @@ pub fn remove(
     e: u8,
     pages: u16,
     rank: u8,
-    d: u8,
-    p: u32,
+    entry: Entry,
     w: u64,
     key: u64,
     position: u64,
     trail: u64,
     next: u8,
 ) -> Remnant
-    requires { RemovePre e pages rank index.old (d, p) w key position }
-    ensures { RemovePost e pages rank index.old (d, p) w key position trail next index.new result }
+    requires { RemovePre e pages rank index.old (entry.depth, entry.pointer) w key position }
+    ensures { RemovePost e pages rank index.old (entry.depth, entry.pointer) w key position trail next index.new result }
 {
     if rank == 0 {
-        return strike(d, trail, next);
+        return strike(entry.depth, trail, next);
     }
-    let page = page_of(p);
-    let place = locate(
-        index,
-        e,
-        pages,
-        rank - 1,
-        d,
-        page,
-        w,
-        key,
-        position,
-        trail,
-        next,
-    );
-    let row = place.row;
-    let spot = place.spot;
+    let level = rank - 1;
+    let page = PageNo::from_pointer(entry.pointer);
+    let mut row = load_page(index, e, page);
+    let spot = seek(index, e, page, w, key, position, trail);
     let i = spot.at;
+    let next = after(index, e, pages, level, page, i + 1, next);
+    let found = Entry {
+        depth: row.depth(i),
+        pointer: row.pointer(i),
+    };
     let x = remove(
         index,
         e,
         pages,
-        rank - 1,
-        row.depth(i),
-        row.pointer(i),
+        level,
+        found,
         w,
         key,
         spot.position,
         spot.trail,
-        place.next,
+        next,
     );
-    let s = x.state;
-    let slot = put(row, i + 1, x);
-    let at = slot.at;
-    let done = sweep(index, e, pages, rank - 1, slot.row, i, at, s);
-    settle(index, e, rank - 1, page, done)
+    let at = put(&mut row, i + 1, x.left);
+    let state = sweep(index, e, pages, level, &mut row, i, at, x.state);
+    let left = settle(index, e, level, page, row);
+    Remnant { left, state }
 }

@@ -1,10 +1,7 @@
 -- The entry goes with the entries before it up to one that stays. Assumes nothing.
 use mathlib.Core.Path.{refl}
-use Rattle.page_delete.proofs.NearRows.{near_none, near_some, clear_close, clear_done}
+use Rattle.page_delete.proofs.NearRows.{near_some, clear_close, clear_done}
 use Rattle.page_delete.proofs.clear_near.Goals as goal
-
-pub returns-then-reaches_back : goal.returns-then-reaches_back
-returns-then-reaches_back c = near_none
 
 pub close-requires : goal.close-requires
 close-requires c =

@@ -1,13 +1,7 @@
 -- The entry takes the pointer of the one before it, and the entries before it up to one that stays go. Assumes nothing.
 use native.Mathlib.Omega.{arith}
-use Rattle.page_delete.proofs.NearRows.{near_none, near_some, give_close, give_done}
+use Rattle.page_delete.proofs.NearRows.{near_some, give_close, give_done}
 use Rattle.page_delete.proofs.give_near.Goals as goal
-
-pub returns-then-at-eq0 : goal.returns-then-at-eq0
-returns-then-at-eq0 c = near_none
-
-pub returns-then-reaches_back : goal.returns-then-reaches_back
-returns-then-reaches_back c = near_none
 
 pub close-requires : goal.close-requires
 close-requires c =

@@ -6,6 +6,3 @@ use Rattle.page_delete.proofs.staying.Given as goal
 
 abbrev pub invariant-loop-i : goal.invariant-loop-i
 invariant-loop-i l = Going (pages_at (layout_of l.e) l.index l.page.0) l.n l.than l.i
-
-abbrev pub decreases-loop-i : goal.decreases-loop-i
-decreases-loop-i l = l.i

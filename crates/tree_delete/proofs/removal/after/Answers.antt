@@ -5,22 +5,22 @@ use Rattle.tree_delete.proofs.removal.after.Goals as goal
 pub count-requires : goal.count-requires
 count-requires c = after_within c.requires
 
-pub depth-d-requires : goal.depth-d-requires
-depth-d-requires c =
-    after_read c.requires _ c.count.ensures c.wide.ensures.0 c.if-i-wide.true
+pub depth-requires : goal.depth-requires
+depth-requires c =
+    after_read c.requires _ c.count.ensures c.from.ensures c.if-from-i.false
 
-pub pointer-p-requires : goal.pointer-p-requires
-pointer-p-requires c =
-    after_read c.requires _ c.count.ensures c.wide.ensures.0 c.if-i-wide.true
+pub pointer-requires : goal.pointer-requires
+pointer-requires c =
+    after_read c.requires _ c.count.ensures c.from.ensures c.if-from-i.false
 
 pub first_depth-requires : goal.first_depth-requires
 first_depth-requires c =
-    after_first c.requires _ c.count.ensures c.wide.ensures.0 c.if-i-wide.true c.depth-d.ensures c.pointer-p.ensures.0
-
-pub returns-then-i-wide : goal.returns-then-i-wide
-returns-then-i-wide c =
-    after_some c.requires _ c.count.ensures c.wide.ensures.0 c.if-i-wide.true c.depth-d.ensures c.pointer-p.ensures.0 _ _ c.first_depth.ensures
+    after_first c.requires _ c.count.ensures c.from.ensures c.if-from-i.false c.depth.ensures c.pointer.ensures.0
 
 pub returns : goal.returns
 returns c =
-    after_none c.requires _ c.count.ensures c.wide.ensures.0 _ c.if-i-wide.false
+    after_some c.requires _ c.count.ensures c.from.ensures c.if-from-i.false c.depth.ensures c.pointer.ensures.0 _ _ c.first_depth.ensures
+
+pub returns-then-from-i : goal.returns-then-from-i
+returns-then-from-i c =
+    after_none c.requires _ c.count.ensures c.from.ensures _ c.if-from-i.true

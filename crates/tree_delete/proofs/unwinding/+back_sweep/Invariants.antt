@@ -10,7 +10,4 @@ abbrev pub decreases-sweep : goal.decreases-sweep
 decreases-sweep l = 2 * l.rank + 1
 
 abbrev pub invariant-sweep-loop-i : goal.invariant-sweep-loop-i
-invariant-sweep-loop-i l = Sweeping l.e l.pages l.rank l.initial.index l.initial.r l.left l.right l.initial.s l.index l.r l.i l.at l.s
-
-abbrev pub decreases-sweep-loop-i : goal.decreases-sweep-loop-i
-decreases-sweep-loop-i l = l.i
+invariant-sweep-loop-i l = Sweeping l.e l.pages l.rank l.initial.index l.initial.row l.left l.right l.initial.state l.index l.row l.i l.at l.state
