@@ -41,8 +41,12 @@ pub fn find_held(index: &[u8], keys: &[u64], used: &[u8], key: u64) -> Result<Re
 {
     // With two callers found_number stays a call that hands over registers alone.
     let pointer = table_search::number_pointer(found_number(index, keys, used, key));
-    match index_table::layout::answer_of(pointer) {
-        Some(record) if keys[record.0 as usize] == key => Ok(record),
-        _ => Err(Refusal::KeyNotHeld),
+    let Some(record) = index_table::layout::answer_of(pointer) else {
+        return Err(Refusal::KeyNotHeld);
+    };
+    let at = record.0 as usize;
+    if keys[at] != key {
+        return Err(Refusal::KeyNotHeld);
     }
+    Ok(record)
 }

@@ -13,23 +13,23 @@ use Rattle.table_find.proofs.find.find_held.Goals as goal
 live-number : {p q x : ℕ} → p ≡ q → (p ≢ 65535) × (p ≡ x) → (q ≢ 65535) × (q ≡ x)
 live-number z live = (λ y. live.0 (z ∙ y), sym z ∙ live.1)
 
-pub bounds-keys-record : goal.bounds-keys-record
-bounds-keys-record c =
+pub returns-in_default : goal.returns-in_default
+returns-in_default c =
+    dummy_absent c.requires.0 _ c.requires.1 _ c.found_number.ensures
+    (sym c.number_pointer-pointer.ensures ∙ dummy_pointer _ _ c.answer_of.ensures c.in_default.is)
+
+pub bounds-keys-at : goal.bounds-keys-at
+bounds-keys-at c =
     let live = live-number c.number_pointer-pointer.ensures (live_pointer _ _ _ c.answer_of.ensures c.in-Some.is) in
     subst (λ (n : ℕ). n < length c.args.keys.now) live.1 (live_inside c.requires.0 _ c.requires.1 _ c.found_number.ensures live.0)
 
-pub returns-in-Some : goal.returns-in-Some
-returns-in-Some c =
-    let live = live-number c.number_pointer-pointer.ensures (live_pointer _ _ _ c.answer_of.ensures c.in-Some.is) in
-    ap with_record (sym live.1)
-    ∙ live_found c.requires.0 _ c.requires.1 _ c.found_number.ensures live.0 (subst (λ (n : ℕ). get_or c.args.keys.now n 0 ≡ c.args.key) (sym live.1) (omega arith))
-
-pub returns-in_default : goal.returns-in_default
-returns-in_default c =
+pub returns-then-keys-at : goal.returns-then-keys-at
+returns-then-keys-at c =
     let live = live-number c.number_pointer-pointer.ensures (live_pointer _ _ _ c.answer_of.ensures c.in-Some.is) in
     other_absent c.requires.0 _ c.requires.1 _ c.found_number.ensures live.0 (subst (λ (n : ℕ). get_or c.args.keys.now n 0 ≡ c.args.key → ⊥) (sym live.1) (λ q. omega arith))
 
-pub returns-in_default-2 : goal.returns-in_default-2
-returns-in_default-2 c =
-    dummy_absent c.requires.0 _ c.requires.1 _ c.found_number.ensures
-    (sym c.number_pointer-pointer.ensures ∙ dummy_pointer _ _ c.answer_of.ensures c.in_default.is)
+pub returns : goal.returns
+returns c =
+    let live = live-number c.number_pointer-pointer.ensures (live_pointer _ _ _ c.answer_of.ensures c.in-Some.is) in
+    ap with_record (sym live.1)
+    ∙ live_found c.requires.0 _ c.requires.1 _ c.found_number.ensures live.0 (subst (λ (n : ℕ). get_or c.args.keys.now n 0 ≡ c.args.key) (sym live.1) (omega arith))
