@@ -1,8 +1,9 @@
 // Format: tables for an empty herd.
 #![tactic(auto)]
 
-ghost use Rattle.std.specs.Prelude.{◌≡◌};
+ghost use Rattle.std.specs.Prelude.{◌≡◌, true, ◌↔◌};
 ghost use Rattle.index_table.specs.Refusals.{row_of};
+ghost use Rattle.index_table.specs.Soundness.{Limits};
 ghost use Rattle.table_find.specs.Answers.{plain};
 ghost use Rattle.table_format.specs.Format.{format_fits, empty_table, FormatDoes, EmptyPre};
 
@@ -10,15 +11,22 @@ use index_table::header::Index;
 use index_table::layout::PageNo;
 use index_table::refusal::Refusal;
 
-// Whether the widths, counts and lengths are within their limits.
-fn format_fits(w: u64, e: u64, p: u64, table: usize, keys: usize, used: usize) -> bool
-    ensures { result ≡ format_fits w e p table keys used }
+// Whether W, E, P and the number of records are inside their limits.
+fn limits_hold(w: u64, e: u64, p: u64, records: usize) -> bool
+    ensures { (result ≡ true) ↔ Limits w e p records }
 {
     (1..=Index::MAX_WIDTH).contains(&w)
         && (2..=Index::MAX_ENTRIES).contains(&e)
         && (1..=Index::MAX_PAGES).contains(&p)
-        && (1..=Index::MAX_RECORDS).contains(&used)
-        && keys == used
+        && (1..=Index::MAX_RECORDS).contains(&records)
+}
+
+// Whether the widths, counts and lengths are within their limits.
+fn format_fits(w: u64, e: u64, p: u64, table: usize, keys: usize, used: usize) -> bool
+    ensures { result ≡ format_fits w e p table keys used }
+{
+    keys == used
+        && limits_hold(w, e, p, used)
         && table == index_table::layout::table_bytes(e as u8, p as u16)
 }
 
