@@ -3,6 +3,7 @@
 
 ghost use Rattle.std.specs.Prelude.{◌≡◌, ◌-◌, ◌≤◌, length};
 ghost use Rattle.page_tree.specs.Numbered.{off_numbered};
+ghost use Rattle.index_table.specs.Refusals.{row_of};
 ghost use Rattle.index_table.specs.Header.{width_of, entries_of, held_of};
 ghost use Rattle.index_table.specs.Layout.{Within, layout_of};
 ghost use Rattle.index_table.specs.Soundness.{numbered_tree_of};
@@ -10,7 +11,8 @@ ghost use Rattle.new_entries.specs.Entries.{refs_for};
 ghost use Rattle.index_change.specs.Repaging.{OffPagesPre, Repaged, late_row_with, OnPagesPre, Roomy, OnPages, room_for, OpenPre, opened_with};
 
 use index_table::header::Index;
-use index_table::layout::{PageNo, deep};
+use index_table::layout::PageNo;
+use index_table::refusal::Refusal;
 use new_entries::entries::News;
 use page_tree::Row;
 use table_search::Leaf;
@@ -28,7 +30,7 @@ pub fn strike_pages(index: &mut [u8], key: u64, leaf: Leaf)
         h.pages,
         level,
         h.root,
-        deep(h.width),
+        u64::from(h.width),
         key,
         leaf,
     );
@@ -36,10 +38,10 @@ pub fn strike_pages(index: &mut [u8], key: u64, leaf: Leaf)
     index_write::write::set_held(index, h.held - 1);
 }
 
-// Row 8 or 7, the first that applies to an insertion of the entries; 0 if neither does.
-pub fn late_row(index: &[u8], key: u64, news: Row) -> u32
+// Refuses an insertion of the entries by row 8 or 7, the first that applies.
+pub fn late_row(index: &[u8], key: u64, news: Row) -> Result<(), Refusal>
     requires { OnPagesPre index.now key news }
-    ensures { result ≡ late_row_with index.now key news }
+    ensures { row_of result ≡ late_row_with index.now key news }
 {
     let h = index_table::header::read(index);
     let level = index_table::layout::level(index, h.entries, h.root);
@@ -49,21 +51,21 @@ pub fn late_row(index: &[u8], key: u64, news: Row) -> u32
         h.pages,
         level,
         h.root,
-        deep(h.width),
+        u64::from(h.width),
         key,
         news,
     );
-    if after.level > Index::MAX_LEVEL as usize {
-        return 8;
+    if after.level > usize::from(Index::MAX_LEVEL) {
+        return Err(Refusal::RootTooHigh);
     }
     if after.fresh == 0 {
-        return 0;
+        return Ok(());
     }
     let n = table_plan::pages_in_use(index, h.entries, h.pages);
-    if n + after.fresh > h.pages as usize {
-        return 7;
+    if n + after.fresh > usize::from(h.pages) {
+        return Err(Refusal::OutOfPages);
     }
-    0
+    Ok(())
 }
 
 // Whether a page has room for n entries in the place of one of its own.
@@ -73,7 +75,7 @@ pub fn has_room(index: &[u8], page: PageNo, n: usize) -> bool
 {
     let e = index_table::header::read(index).entries;
     let m = index_table::layout::count(index, e, page);
-    index_table::layout::wide(m) + n <= index_table::layout::wide(e) + 1
+    usize::from(m) + n <= usize::from(e) + 1
 }
 
 // New entries are put in the place of entry `at` of a page that has room for them.
@@ -83,7 +85,7 @@ pub fn open_leaf(index: &mut [u8], page: PageNo, at: usize, key: u64, news: News
 {
     let head = index_table::header::read(index);
     let place = page_change::open::open_page(index, head.entries, page, at, news.count());
-    new_entries::news::write_news(index, place, deep(head.width), key, news);
+    new_entries::news::write_news(index, place, u64::from(head.width), key, news);
     index_write::write::set_held(index, head.held + 1);
 }
 
@@ -100,7 +102,7 @@ pub fn splice_pages(index: &mut [u8], key: u64, news: Row)
         h.pages,
         level,
         h.root,
-        deep(h.width),
+        u64::from(h.width),
         key,
         news,
     );

@@ -5,3 +5,4 @@ pub mod Pages
 pub mod Soundness
 pub mod Answers
 pub mod IndexNumbers
+pub mod Refusals

@@ -3,3 +3,4 @@
 
 pub mod header;
 pub mod layout;
+pub mod refusal;

@@ -1,7 +1,11 @@
 -- What the calls answer (01, "When a call is declined"). Assumes nothing.
-use Rattle.std.specs.Prelude.{Bool, false, ℕ}
+use Rattle.std.specs.Prelude.{Bool, false, ℕ, Result, Ok, Err}
 use Rattle.std.proofs.Math.Option.{Option, none, some}
+use Rattle.index_table.specs.Refusals.{number_of}
+use Rattle.index_table.specs.declared.layout.RecordNo.{RecordNo}
+use Rattle.index_table.specs.declared.refusal.Refusal.{Refusal}
 use Rattle.table_find.specs.declared.answer.Answer.{Answer}
+use Rattle.table_find.specs.declared.answer.Counted.{Counted}
 
 -- "A refusal returns its number with count 0, nothing remaining and record 65,535"; "A done call returns 0, and parts of the answer that it
 -- doesn't set stand as in a refusal."
@@ -20,3 +24,12 @@ with_count n more = record { number = 0; «record» = 65535; count = n; more = m
 abbrev pub found : Option ℕ → Answer
 found none = plain 6
 found (some r) = with_record r
+
+-- The answer of a find and of a list, done or refused. (Of a call that sets nothing but the number it is `plain (row_of result)`.)
+abbrev pub find_answer : Result RecordNo Refusal → Answer
+find_answer (Ok r) = with_record r.0
+find_answer (Err refusal) = plain (number_of refusal)
+
+abbrev pub list_answer : Result Counted Refusal → Answer
+list_answer (Ok counted) = with_count counted.count counted.more
+list_answer (Err refusal) = plain (number_of refusal)

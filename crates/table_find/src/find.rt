@@ -4,11 +4,12 @@ ghost use Rattle.leaf_list.specs.Herd.{lookup};
 ghost use Rattle.leaf_list.specs.Register.{herd_of};
 ghost use Rattle.index_table.specs.Header.{width_of};
 ghost use Rattle.index_table.specs.Soundness.{Sound};
-ghost use Rattle.table_find.specs.Answers.{found};
+ghost use Rattle.table_find.specs.Answers.{found, find_answer};
 ghost use Rattle.table_find.specs.Places.{numbered_leaf, FoundLeaf};
 
-use crate::answer::Answer;
 use index_table::header::Index;
+use index_table::layout::RecordNo;
+use index_table::refusal::Refusal;
 use table_search::Leaf;
 
 // The entry on level 0 at which the search for a key ends, as one number.
@@ -17,7 +18,7 @@ fn found_number(index: &[u8], keys: &[u64], used: &[u8], key: u64) -> u64
     ensures { FoundLeaf index.now keys.now used.now key (numbered_leaf index.now result) }
 {
     let h = index_table::header::read(index);
-    let w = index_table::layout::deep(h.width);
+    let w = u64::from(h.width);
     let level = index_table::layout::level(index, h.entries, h.root);
     let position = table_search::next_position(w, key, 0);
     table_search::descend(&index, level, h.root, key, position, 0, false)
@@ -34,18 +35,18 @@ pub fn leaf_of(index: &[u8], keys: &[u64], used: &[u8], key: u64) -> Leaf
 }
 
 // The record of a held key: only a live leaf yields one, and its key is compared whole.
-pub fn find_held(index: &[u8], keys: &[u64], used: &[u8], key: u64) -> Answer
+pub fn find_held(index: &[u8], keys: &[u64], used: &[u8], key: u64) -> Result<RecordNo, Refusal>
     requires { Sound index.now keys.now used.now × (key < 2 ^ width_of index.now) }
-    ensures { result ≡ found (lookup key (herd_of keys.now used.now)) }
+    ensures { find_answer result ≡ found (lookup key (herd_of keys.now used.now)) }
 {
     // With two callers found_number stays a call that hands over registers alone.
     let pointer = table_search::number_pointer(found_number(index, keys, used, key));
     let Some(record) = index_table::layout::answer_of(pointer) else {
-        return Answer::plain(6);
+        return Err(Refusal::KeyNotHeld);
     };
     let at = record.0 as usize;
     if keys[at] != key {
-        return Answer::plain(6);
+        return Err(Refusal::KeyNotHeld);
     }
-    Answer::with_record(record.0)
+    Ok(record)
 }

@@ -85,6 +85,22 @@ module _ (w e p table keys used : ℕ) where
       go true h = absurd (n (fits_says h))
       go false h = refl
 
+  -- Within the limits the lengths decide.
+  pub fits_length : Limits w e p used → keys ≡ used → format_fits w e p table keys used ≡ eqb table (page_start (layout_of e) p)
+  unfolding format_fits
+  fits_length l r =
+      rw (
+        le-leb 1 w l.width_low,
+        le-leb w 64 l.width_high,
+        le-leb 2 e l.entries_low,
+        le-leb e 255 l.entries_high,
+        le-leb 1 p l.pages_low,
+        le-leb p 65534 l.pages_high,
+        le-leb 1 used l.records_low,
+        le-leb used 65534 l.records_high,
+        eq-eqb keys used r,
+      )
+
 module _ {w e p : ℕ} {index keys used : List ℕ} where
   pub format_refused : (r : Answer) → format_fits w e p (length index) (length keys) (length used) ≡ false → r ≡ plain 9
       → FormatDoes w e p index keys used index keys used r

@@ -6,4 +6,4 @@ pub count-m-requires : goal.count-m-requires
 count-m-requires c = rw c.read-e.ensures.entries c.requires.1
 
 pub returns : goal.returns
-returns c = room_tested _ _ _ c.read-e.ensures.entries c.count-m.ensures c.wide.ensures.0 c.wide-2.ensures.0
+returns c = room_tested _ _ _ c.read-e.ensures.entries c.count-m.ensures c.from.ensures c.from-2.ensures

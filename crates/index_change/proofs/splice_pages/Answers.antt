@@ -8,7 +8,7 @@ level-level-requires c = root_inside c.requires.0.changeable _ c.read-h.ensures
 
 pub put_in-root-requires : goal.put_in-root-requires
 put_in-root-requires c =
-    put_pre c.requires.0.changeable _ c.read-h.ensures _ _ c.deep.ensures c.level-level.ensures _ c.requires.0 c.requires.1
+    put_pre c.requires.0.changeable _ c.read-h.ensures _ _ c.from.ensures c.level-level.ensures _ c.requires.0 c.requires.1
 
 pub set_held-requires : goal.set_held-requires
 set_held-requires c =
@@ -16,4 +16,4 @@ set_held-requires c =
 
 pub returns : goal.returns
 returns c =
-    on_repaged c.requires.0.changeable _ c.read-h.ensures _ _ c.deep.ensures c.level-level.ensures _ c.requires.0 _ _ _ _ c.put_in-root.ensures c.set_root.ensures c.set_held.ensures
+    on_repaged c.requires.0.changeable _ c.read-h.ensures _ _ c.from.ensures c.level-level.ensures _ c.requires.0 _ _ _ _ c.put_in-root.ensures c.set_root.ensures c.set_held.ensures

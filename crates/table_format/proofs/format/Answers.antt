@@ -1,13 +1,11 @@
 -- Row 9, or every byte and key of the empty tables. Assumes nothing.
-use mathlib.Core.Path.{sym, ◌∙◌}
+use mathlib.Core.Path.{sym, ◌∙◌, refl}
 use native.Mathlib.Omega.{arith}
-use lib.ListN.{length-replicate}
 use Rattle.table_format.proofs.FormatLimits.{fits_says, format_refused, format_done, format_empty}
-use Rattle.table_format.proofs.EmptyTables.{over_whole}
 use Rattle.table_format.proofs.format.Goals as goal
 
 pub returns-then-not-format_fits : goal.returns-then-not-format_fits
-returns-then-not-format_fits c = format_refused _ (sym c.format_fits.ensures ∙ c.if-not-format_fits.true) c.plain.ensures
+returns-then-not-format_fits c = format_refused _ (sym c.format_fits.ensures ∙ c.if-not-format_fits.true) refl
 
 pub overflow_cast-w : goal.overflow_cast-w
 overflow_cast-w c = omega (arith, (fits_says _ _ _ _ _ _ (sym c.format_fits.ensures ∙ c.if-not-format_fits.false)).limits.width_high)
@@ -23,5 +21,4 @@ make_empty-requires c = format_empty _ _ _ (sym c.format_fits.ensures ∙ c.if-n
 
 pub returns : goal.returns
 returns c =
-    format_done _ (sym c.format_fits.ensures ∙ c.if-not-format_fits.false) c.plain-2.ensures c.make_empty.ensures c.clear_keys.ensures
-    (c.clear.ensures ∙ over_whole _ _ (length-replicate _ 0))
+    format_done _ (sym c.format_fits.ensures ∙ c.if-not-format_fits.false) refl c.make_empty.ensures (c.fill.ensures.after (λ y e. e)) (c.fill-2.ensures.after (λ y e. e))

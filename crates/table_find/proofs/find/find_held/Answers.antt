@@ -15,8 +15,7 @@ live-number z live = (λ y. live.0 (z ∙ y), sym z ∙ live.1)
 
 pub returns-in_default : goal.returns-in_default
 returns-in_default c =
-    c.plain.ensures
-    ∙ dummy_absent c.requires.0 _ c.requires.1 _ c.found_number.ensures
+    dummy_absent c.requires.0 _ c.requires.1 _ c.found_number.ensures
     (sym c.number_pointer-pointer.ensures ∙ dummy_pointer _ _ c.answer_of.ensures c.in_default.is)
 
 pub bounds-keys-at : goal.bounds-keys-at
@@ -27,11 +26,10 @@ bounds-keys-at c =
 pub returns-then-keys-at : goal.returns-then-keys-at
 returns-then-keys-at c =
     let live = live-number c.number_pointer-pointer.ensures (live_pointer _ _ _ c.answer_of.ensures c.in-Some.is) in
-    c.plain-then-keys-at.ensures
-    ∙ other_absent c.requires.0 _ c.requires.1 _ c.found_number.ensures live.0 (subst (λ (n : ℕ). get_or c.args.keys.now n 0 ≡ c.args.key → ⊥) (sym live.1) (λ q. omega arith))
+    other_absent c.requires.0 _ c.requires.1 _ c.found_number.ensures live.0 (subst (λ (n : ℕ). get_or c.args.keys.now n 0 ≡ c.args.key → ⊥) (sym live.1) (λ q. omega arith))
 
 pub returns : goal.returns
 returns c =
     let live = live-number c.number_pointer-pointer.ensures (live_pointer _ _ _ c.answer_of.ensures c.in-Some.is) in
-    c.with_record.ensures ∙ ap with_record (sym live.1)
+    ap with_record (sym live.1)
     ∙ live_found c.requires.0 _ c.requires.1 _ c.found_number.ensures live.0 (subst (λ (n : ℕ). get_or c.args.keys.now n 0 ≡ c.args.key) (sym live.1) (omega arith))

@@ -12,16 +12,16 @@ level-level-requires c = root_page c.requires.0 _ c.read-h.ensures
 
 pub next_position-position-requires : goal.next_position-position-requires
 next_position-position-requires c =
-    (width_high c.requires.0 _ c.read-h.ensures _ c.deep-w.ensures, omega arith, key_narrow c.requires.0 _ c.read-h.ensures _ _ _ c.deep-w.ensures c.level-level.ensures c.requires.1)
+    (width_high c.requires.0 _ c.read-h.ensures _ c.from-w.ensures, omega arith, key_narrow c.requires.0 _ c.read-h.ensures _ _ _ c.from-w.ensures c.level-level.ensures c.requires.1)
 
 pub descend-requires : goal.descend-requires
 descend-requires c =
     record {
-      page_is = descend_start c.requires.0 _ c.read-h.ensures _ _ _ c.deep-w.ensures c.level-level.ensures c.requires.1 _ c.next_position-position.ensures;
+      page_is = descend_start c.requires.0 _ c.read-h.ensures _ _ _ c.from-w.ensures c.level-level.ensures c.requires.1 _ c.next_position-position.ensures;
       trail_low = omega arith;
       entries_high = c.requires.0.limits.entries_high;
     }
 
 pub returns : goal.returns
 returns c =
-    descend_end c.requires.0 _ c.read-h.ensures _ _ _ c.deep-w.ensures c.level-level.ensures c.requires.1 _ _ c.next_position-position.ensures c.descend.ensures
+    descend_end c.requires.0 _ c.read-h.ensures _ _ _ c.from-w.ensures c.level-level.ensures c.requires.1 _ _ c.next_position-position.ensures c.descend.ensures
