@@ -1,5 +1,5 @@
 -- Numbers in decimal: no leading zero, the same number back, and how many digits. Assumes nothing.
-use mathlib.Core.Path.{◌≡◌, refl, ap, ◌∙◌}
+use mathlib.Core.Path.{◌≡◌, refl, sym, ap, ◌∙◌}
 use mathlib.Core.Bool.{Bool, true, false}
 use mathlib.Core.List.{List, [], ◌∷◌, ◌++◌}
 use Prim.Native.Nat.{ℕ, zero, suc, ◌+◌, ◌*◌, ◌-◌, ◌/◌, ◌%◌, ◌^◌, ◌≤◌, ◌<◌}
@@ -8,6 +8,8 @@ use native.Mathlib.Nat.{pow-suc}
 use lib.Dec.{ltb}
 use lib.ListN.{length, get_or, length-append, get_or-append}
 use borrow.Author.Tests.{ltb-true, ltb-false}
+use Rattle.std.specs.Fmt.{decimal as printed}
+use Rattle.std.proofs.lemmas.Fmt.{decimal_digit, decimal_step}
 use Rattle.book_answers.specs.Answers.{digit, digits_within, decimal, value_after, value, Digits}
 
 -- ---- the digits, one step at a time
@@ -47,6 +49,19 @@ decimal_one n h = let e : n / 10 ≡ 0 = omega arith in let r : n % 10 ≡ n = o
 pub decimal_more : (n : ℕ) → 10 ≤ n → decimal n ≡ decimal (n / 10) ++ (digit (n % 10) ∷ [])
 unfolding decimal
 decimal_more n h = ap (λ (l : List ℕ). l ++ (digit (n % 10) ∷ [])) (within_decimal n (n / 10) (omega arith) (omega arith))
+
+-- So they are what the library prints.
+decimal_below : (bound n : ℕ) → n ≤ bound → n < 2 ^ 64 → printed n ≡ decimal n
+decimal_below zero n h small = decimal_digit n (omega arith) ∙ sym (decimal_one n (omega arith))
+decimal_below (suc bound) n h small = go (ltb n 10) refl (λ l. decimal_below bound (n / 10) (omega arith) (omega arith))
+  where
+    go : (t : Bool) → ltb n 10 ≡ t → (10 ≤ n → printed (n / 10) ≡ decimal (n / 10)) → printed n ≡ decimal n
+    go true e rest = decimal_digit n (ltb-true n 10 e) ∙ sym (decimal_one n (ltb-true n 10 e))
+    go false e rest =
+        decimal_step n (ltb-false n 10 e) small ∙ rw (rest (ltb-false n 10 e)) (sym (decimal_more n (ltb-false n 10 e)))
+
+pub decimal_printed : (n : ℕ) → n < 2 ^ 64 → printed n ≡ decimal n
+decimal_printed n small = decimal_below n n (omega arith) small
 
 -- ---- the number again
 

@@ -2,33 +2,15 @@
 use mathlib.Core.Path.{◌≡◌, refl, sym, ap, ◌∙◌}
 use mathlib.Core.Bool.{Bool, true, false}
 use mathlib.Core.List.{List, [], ◌∷◌, ◌++◌, append-nil, append_assoc}
-use Prim.Native.Nat.{ℕ, zero, suc, ◌+◌, ◌*◌, ◌/◌, ◌%◌, ◌^◌, ◌≤◌, ◌<◌}
+use Prim.Native.Nat.{ℕ, zero, suc, ◌+◌, ◌*◌, ◌^◌, ◌≤◌, ◌<◌}
 use native.Mathlib.Omega.{arith}
-use native.Mathlib.Numerals.{add-one, add-two}
-use lib.ListN.{length, get_or, take, set, length-append, length-take}
-use lib.Seq.{take-suc}
-use Rattle.book_answers.specs.Answers.{digit, decimal, field, fields_of, end_of, answer_line}
-use Rattle.book_answers.specs.Writing.{over, Wrote, RecordNumbers, RoomForRecords, Writable, AnswerWritten}
-use Rattle.book_answers.proofs.Decimals.{decimal_one, decimal_more, decimal_length}
+use native.Mathlib.Numerals.{add-one}
+use lib.ListN.{length, get_or, take, set, length-append}
+use lib.Seq.{take-suc, take_all}
+use Rattle.book_answers.specs.Answers.{decimal, field, fields_of, end_of, answer_line}
+use Rattle.book_answers.specs.Writing.{Wrote, RecordNumbers, Writable, AnswerWritten}
+use Rattle.book_answers.proofs.Decimals.{decimal_length}
 use Rattle.book_answers.proofs.Writing.{wrote_long, wrote_none, wrote_one, wrote_then, wrote_front, wrote_rest}
-
--- ---- a number
-
--- A number takes one digit and the room of its tenth.
-pub length_one : (n : ℕ) → n < 10 → length (decimal n) ≡ 1
-length_one n h = rw (decimal_one n h)
-
-pub length_more : (n : ℕ) → 10 ≤ n → length (decimal n) ≡ length (decimal (n / 10)) + 1
-length_more n h = rw (decimal_more n h) (length-append (decimal (n / 10)) (digit (n % 10) ∷ []))
-
--- One digit is written.
-pub number_one : (b : List ℕ) (at n : ℕ) → n < 10 → Wrote b at (decimal n) (set b at (48 + n)) (at + 1)
-number_one b at n h = rw (decimal_one n h) (wrote_one b at (48 + n))
-
--- The last digit is written behind the tenth of a number.
-pub number_more : (n : ℕ) {b : List ℕ} {at : ℕ} {c : List ℕ} {last : ℕ} → 10 ≤ n → Wrote b at (decimal (n / 10)) c last
-    → Wrote b at (decimal n) (set c last (48 + n % 10)) (last + 1)
-number_more n {b} {at} {c} {last} h w = rw (decimal_more n h) (wrote_then w (wrote_one c last (48 + n % 10)))
 
 -- ---- a field
 
@@ -56,15 +38,12 @@ unfolding fields_of
 fields_more rs i h =
     rw (add-one i, take-suc rs i 0 h) (fields_append (take i rs) (get_or rs i 0 ∷ []) ∙ ap (λ (l : List ℕ). fields_of (take i rs) ++ l) (append-nil (field (get_or rs i 0))))
 
--- The fields before place i, and the field there, are among the first fields.
-fields_room : (rs : List ℕ) (i count : ℕ) → i < count → count ≤ length rs
-    → length (fields_of (take i rs)) + length (field (get_or rs i 0)) ≤ length (fields_of (take count rs))
+-- The fields before place i, and the field there, are among all fields.
+fields_room : (rs : List ℕ) (i : ℕ) → i < length rs → length (fields_of (take i rs)) + length (field (get_or rs i 0)) ≤ length (fields_of rs)
 unfolding fields_of
-fields_room [] i count h g = absurd (omega arith)
-fields_room (r ∷ rs) i zero h g = absurd (omega arith)
-fields_room (r ∷ rs) zero (suc count) h g = omega (arith, length-append (field r) (fields_of (take count rs)))
-fields_room (r ∷ rs) (suc i) (suc count) h g =
-    omega (arith, length-append (field r) (fields_of (take i rs)), length-append (field r) (fields_of (take count rs)), fields_room rs i count (omega arith) (omega arith))
+fields_room [] i h = absurd (omega arith)
+fields_room (r ∷ rs) zero h = omega (arith, length-append (field r) (fields_of rs))
+fields_room (r ∷ rs) (suc i) h = omega (arith, length-append (field r) (fields_of (take i rs)), length-append (field r) (fields_of rs), fields_room rs i (omega arith))
 
 -- No record is written.
 pub records_none : (b : List ℕ) (at : ℕ) (rs : List ℕ) → Wrote b at (fields_of (take 0 rs)) b at
@@ -72,52 +51,29 @@ unfolding fields_of
 records_none b at rs = wrote_none b at
 
 -- There is room for the next record's field.
-pub record_room : (rs : List ℕ) {b : List ℕ} {at count i : ℕ} {c : List ℕ} {next n : ℕ} → RoomForRecords b at rs count
-    → Wrote b at (fields_of (take i rs)) c next → i < count → n ≡ get_or rs i 0 → next + length (field n) ≤ length c
-record_room rs {b} {at} {count} {i} {c} {next} {n} r w h e = rw e (omega (arith, r.room, w.ends, wrote_long w, fields_room rs i count h r.there))
+pub record_room : (rs : List ℕ) {b : List ℕ} {at i : ℕ} {c : List ℕ} {next n : ℕ} → at + length (fields_of rs) ≤ length b
+    → Wrote b at (fields_of (take i rs)) c next → i < length rs → n ≡ get_or rs i 0 → next + length (field n) ≤ length c
+record_room rs {b} {at} {i} {c} {next} {n} room w h e = rw e (omega (arith, room, w.ends, wrote_long w, fields_room rs i h))
 
 -- The next record is written.
-pub record_wrote : (rs : List ℕ) {b : List ℕ} {at count i : ℕ} {c : List ℕ} {next n : ℕ} {d : List ℕ} {behind : ℕ} → RoomForRecords b at rs count
-    → Wrote b at (fields_of (take i rs)) c next → i < count → n ≡ get_or rs i 0 → Wrote c next (field n) d behind → Wrote b at (fields_of (take (i + 1) rs)) d behind
-record_wrote rs {b} {at} {count} {i} r v h e w = rw (fields_more rs i (omega (arith, r.there))) (wrote_then v (rw e at w))
+pub record_wrote : (rs : List ℕ) {b : List ℕ} {at i : ℕ} {c : List ℕ} {next n : ℕ} {d : List ℕ} {behind : ℕ}
+    → Wrote b at (fields_of (take i rs)) c next → i < length rs → n ≡ get_or rs i 0 → Wrote c next (field n) d behind → Wrote b at (fields_of (take (i + 1) rs)) d behind
+record_wrote rs {b} {at} {i} v h e w = rw (fields_more rs i h) (wrote_then v (rw e at w))
 
 -- All are written.
-pub records_wrote : (rs : List ℕ) {b : List ℕ} {at : ℕ} {count i : ℕ} {c : List ℕ} {next : ℕ} → Wrote b at (fields_of (take i rs)) c next → i ≤ count → count ≤ i
-    → Wrote b at (fields_of (take count rs)) c next
-records_wrote rs {b} {at} {count} {i} w h g = let e : count ≡ i = omega arith in rw e w
+pub records_wrote : (rs : List ℕ) {b : List ℕ} {at i : ℕ} {c : List ℕ} {next : ℕ} → Wrote b at (fields_of (take i rs)) c next → length rs ≤ i
+    → Wrote b at (fields_of rs) c next
+records_wrote rs {b} {at} {i} w h = rw (take_all i rs h) at w
 
 -- ---- the end of a line
 
--- The line's end, where more remain and where none do.
-pub end_more : (b : List ℕ) (at : ℕ) (more : Bool) → more ≡ true → Wrote b at (end_of more) (set (set (set b at 9) (at + 1) 43) (at + 2) 10) (at + 3)
-unfolding end_of over
-end_more b at more e = rw (e, add-one at, add-two at) (record { bytes_there = refl; ends = refl })
-
-pub end_none : (b : List ℕ) (at : ℕ) (more : Bool) → more ≡ false → Wrote b at (end_of more) (set b at 10) (at + 1)
-unfolding end_of
-end_none b at more e = rw e (wrote_one b at 10)
-
 -- What it takes.
-pub length_end_more : (more : Bool) → more ≡ true → length (end_of more) ≡ 3
-unfolding end_of
-length_end_more more e = rw e
-
-pub length_end_none : (more : Bool) → more ≡ false → length (end_of more) ≡ 1
-unfolding end_of
-length_end_none more e = rw e
-
 length_end : (more : Bool) → length (end_of more) ≤ 3
 unfolding end_of
 length_end true = omega arith
 length_end false = omega arith
 
 -- ---- a line
-
--- Records that are small one by one are so together.
-pub record_numbers : (rs : List ℕ) (count : ℕ) → ((k : ℕ) → k < count → get_or rs k 0 ≤ 65535) → RecordNumbers (take count rs)
-record_numbers rs zero h = tt
-record_numbers [] (suc count) h = tt
-record_numbers (r ∷ rs) (suc count) h = (h 0 (omega arith), record_numbers rs count (λ k g. h (suc k) (omega arith)))
 
 -- A record takes at most six bytes.
 length_fields : (rs : List ℕ) → RecordNumbers rs → length (fields_of rs) ≤ 6 * length rs
@@ -151,12 +107,10 @@ pub record AnswerOf (b : List ℕ) (line number : ℕ) (rs : List ℕ) (more : B
   pub small : length (answer_line line number rs more) ≤ 226
   pub room : length (decimal line) + length (field number) + length (fields_of rs) + length (end_of more) ≤ length b
 
-pub answer_of : {b records : List ℕ} {count : ℕ} (line number : ℕ) (more : Bool) → Writable b records count → line < 2 ^ 64 → number < 2 ^ 32
-    → AnswerOf b line number (take count records) more
-answer_of {b} {records} {count} line number more w h g =
-    let small : length (answer_line line number (take count records) more) ≤ 226
-    = line_small line number (take count records) more h g (omega (arith, length-take count records, w.few, w.there)) w.numbers in
-    record { small = small; room = omega (arith, length_line line number (take count records) more, w.room) }
+pub answer_of : {b rs : List ℕ} (line number : ℕ) (more : Bool) → Writable b rs → line < 2 ^ 64 → number < 2 ^ 32 → AnswerOf b line number rs more
+answer_of {b} {rs} line number more w h g =
+    let small : length (answer_line line number rs more) ≤ 226 = line_small line number rs more h g w.few w.numbers in
+    record { small = small; room = omega (arith, length_line line number rs more, w.room) }
 
 -- ---- a line, part by part
 

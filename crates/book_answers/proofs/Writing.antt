@@ -1,10 +1,10 @@
 -- Bytes written one behind the other. Assumes nothing.
 use mathlib.Core.Path.{◌≡◌, refl, sym, ap, ◌∙◌}
-use mathlib.Core.List.{List, [], ◌∷◌, ◌++◌}
+use mathlib.Core.List.{List, [], ◌∷◌, ◌++◌, append_assoc}
 use Prim.Native.Nat.{ℕ, suc, ◌+◌, ◌≤◌}
 use native.Mathlib.Omega.{arith}
 use lib.ListN.{length, take, drop, set, length-append}
-use lib.Seq.{sets, length-sets, sets-eq, take_at, drop_at}
+use lib.Seq.{sets, length-sets, sets-eq, take_at, drop_at, drop-drop}
 use Rattle.book_answers.specs.Writing.{over, Wrote}
 
 -- One list over another, behind the one before.
@@ -29,6 +29,12 @@ wrote_none b at = record { bytes_there = refl; ends = omega arith }
 pub wrote_one : (b : List ℕ) (at x : ℕ) → Wrote b at (x ∷ []) (set b at x) (at + 1)
 unfolding over
 wrote_one b at x = record { bytes_there = refl; ends = omega arith }
+
+-- Bytes are put in the place of as many.
+pub wrote_bytes : (b bytes piece : List ℕ) (at m : ℕ) → at + length bytes ≤ length b → m ≡ length bytes → piece ≡ bytes
+    → Wrote b at bytes (take at b ++ (piece ++ drop m (drop at b))) (at + length bytes)
+unfolding over
+wrote_bytes b bytes piece at m h e same = record { bytes_there = rw (same, e, drop-drop, sets-eq bytes b at h, append_assoc) refl; ends = refl }
 
 -- Bytes are written behind others.
 pub wrote_then : {b : List ℕ} {at : ℕ} {xs c : List ℕ} {n : ℕ} {ys d : List ℕ} {m : ℕ} → Wrote b at xs c n → Wrote c n ys d m → Wrote b at (xs ++ ys) d m

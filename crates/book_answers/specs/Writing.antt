@@ -1,7 +1,7 @@
 -- What the functions that write an answer ask, and what they leave. Assumes nothing.
 use Rattle.std.specs.Prelude.{◌≡◌, Bool, List, [], ◌∷◌, ℕ, ◌+◌, ◌≤◌, length, take, drop}
 use Rattle.std.proofs.lemmas.List.Edits.{sets}
-use Rattle.book_answers.specs.Answers.{fields_of, answer_line}
+use Rattle.book_answers.specs.Answers.{answer_line}
 
 -- The bytes written over others from a place on; the length stays.
 unfoldable pub over : List ℕ → ℕ → List ℕ → List ℕ
@@ -17,16 +17,10 @@ abbrev pub RecordNumbers : List ℕ → Type 0
 RecordNumbers [] = Unit {0}
 RecordNumbers (r ∷ rs) = (r ≤ 65535) × RecordNumbers rs
 
--- There are so many records, and room behind `at` for their fields.
-pub record RoomForRecords (out : List ℕ) (at : ℕ) (records : List ℕ) (count : ℕ) : Type 0 where
-  pub there : count ≤ length records
-  pub room : at + length (fields_of (take count records)) ≤ length out
-
 -- An answer can be written: "at most 32 records", and 256 bytes of room.
-pub record Writable (out records : List ℕ) (count : ℕ) : Type 0 where
-  pub there : count ≤ length records
-  pub few : count ≤ 32
-  pub numbers : RecordNumbers (take count records)
+pub record Writable (out records : List ℕ) : Type 0 where
+  pub few : length records ≤ 32
+  pub numbers : RecordNumbers records
   pub room : 256 ≤ length out
 
 -- The line stands at the front, and all else is as before.

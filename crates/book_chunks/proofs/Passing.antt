@@ -1,6 +1,5 @@
 -- Lines answered one after the other, on the way through a chunk. Assumes nothing.
 use mathlib.Core.Path.{◌≡◌, refl, ap, subst, ◌∙◌}
-use mathlib.Core.Bool.{true, false}
 use mathlib.Core.List.{List, [], ◌∷◌, ◌++◌, append_assoc, append-nil}
 use Prim.Native.Nat.{ℕ, suc, ◌+◌, ◌-◌, ◌≤◌, ◌<◌}
 use native.Mathlib.Omega.{arith}
@@ -9,7 +8,7 @@ use lib.Seq.{take_all, take_at, drop_at, drop-drop, take-add, length-take-le}
 use borrow.Rule.Slice.PartMut.{put_mid, mid_of, post_of}
 use Rattle.tag_index.specs.Tables.{Tables}
 use Rattle.book_input.specs.declared.Progress.{Progress}
-use Rattle.book_input.specs.declared.Next.{Next}
+use Rattle.book_input.specs.declared.Next.TheVariants.{Whole, Part}
 use Rattle.book_input.specs.Lines.{begun_before}
 use Rattle.book_input.specs.Progress.{TakesNext, line_answered}
 use Rattle.book_input.proofs.TakenPlaces.{taken_inside, taken_onward, taken_room, taken_lent}
@@ -127,15 +126,10 @@ passed_both a b = record {
 
 -- ---- one turn
 
-module _ {chunk held out after : List ℕ} {p : Progress} {next : Next} (pre : TurnReady chunk held out p)
-    (does : TakesNext chunk held p after next) where
-  -- Taking answers no line.
-  none_answered : {t : Tables} → Answered t [] out p t out next.progress
-  none_answered = answered_none p next.progress pre.ready.space does.lines does.filled
-
+module _ {chunk held out after : List ℕ} {p next : Progress} (pre : TurnReady chunk held out p) where
   -- The answer of a line that is taken has its room and its number.
-  pub turn_room : WithRoom after out next.progress
-  turn_room = record {
+  pub turn_room : TakesNext chunk held p after (Whole next) → WithRoom after out next
+  turn_room does = record {
     lent = taken_lent does.takes pre.ready.lent;
     room = taken_room does.takes;
     answer = omega (arith, pre.answer, does.filled);
@@ -143,12 +137,12 @@ module _ {chunk held out after : List ℕ} {p : Progress} {next : Next} (pre : T
   }
 
   -- A turn that takes a part of a line,
-  pub turn_part : {t : Tables} → next.whole ≡ false → TurnDoes t chunk held out p t after out next.progress
-  turn_part unmet = record {
+  pub turn_part : {t : Tables} → TakesNext chunk held p after (Part next) → TurnDoes t chunk held out p t after out next
+  turn_part does = record {
     passed = record {
       lines = [];
-      passes = takes_part pre.ready.room does.takes unmet;
-      answered = none_answered;
+      passes = takes_part pre.ready.room does.takes refl;
+      answered = answered_none p next pre.ready.space does.lines does.filled;
       ready = record {
         lent = taken_lent does.takes pre.ready.lent;
         room = taken_room does.takes;
@@ -161,18 +155,18 @@ module _ {chunk held out after : List ℕ} {p : Progress} {next : Next} (pre : T
   }
 
   -- and one that takes a line, which is answered.
-  pub turn_line : {t u : Tables} {out₁ : List ℕ} {r : Progress} → next.whole ≡ true → Settled t (begun after next.progress ∷ []) out next.progress u out₁ r
+  pub turn_line : {t u : Tables} {out₁ : List ℕ} {r : Progress} → TakesNext chunk held p after (Whole next) → Settled t (begun after next ∷ []) out next u out₁ r
       → TurnDoes t chunk held out p u after out₁ r
-  turn_line {r = r} met settled =
-      let onward : p.at < next.progress.at = taken_onward does.takes pre.some in
-      let place : r.at ≡ next.progress.at = settled.place in
-      let inside : next.progress.at ≤ length chunk = taken_inside does.takes pre.ready.inside in
+  turn_line {r = r} does settled =
+      let onward : p.at < next.at = taken_onward does.takes pre.some in
+      let place : r.at ≡ next.at = settled.place in
+      let inside : next.at ≤ length chunk = taken_inside does.takes pre.ready.inside in
       let counted : r.lines ≡ p.lines + 1 = settled.answered.counted ∙ ap (λ n. n + 1) does.lines in
       record {
         passed = record {
-          lines = begun after next.progress ∷ [];
-          passes = rw (settled.none, place) (takes_line pre.ready.room does.takes met);
-          answered = answered_both none_answered settled.answered;
+          lines = begun after next ∷ [];
+          passes = rw (settled.none, place) (takes_line pre.ready.room does.takes refl);
+          answered = answered_both (answered_none p next pre.ready.space does.lines does.filled) settled.answered;
           ready = record {
             lent = taken_lent does.takes pre.ready.lent;
             room = omega (arith, settled.none);

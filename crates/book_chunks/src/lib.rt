@@ -6,7 +6,10 @@ ghost use Rattle.book_input.specs.Lines.{begun_before};
 ghost use Rattle.day_book.specs.LineAnswers.{tables};
 ghost use Rattle.book_chunks.specs.Chunks.{begun, Ready, TurnReady, WithRoom, Settled, TurnDoes, ChunkDoes};
 
-use book_input::Progress;
+use book_input::{Next, Progress};
+
+// The longest answer.
+const ROOM: usize = 256;
 
 // The line that is held is answered under the next number, behind the answers before.
 fn answer_held(
@@ -20,18 +23,15 @@ fn answer_held(
     requires { WithRoom held.now out.old progress }
     ensures { Settled (tables index.old keys.old used.old) (begun held.now progress ∷ []) out.old progress (tables index.new keys.new used.new) out.new result }
 {
-    let filled = progress.filled;
-    let length = progress.held;
-    let number = progress.lines + 1;
     let more = day_book::answer_line(
         index,
         keys,
         used,
-        &held[..length],
-        number,
-        &mut out[filled..],
+        &held[..progress.held],
+        progress.lines + 1,
+        &mut out[progress.filled..],
     );
-    book_input::line_answered(progress, filled + more)
+    book_input::line_answered(progress, progress.filled + more)
 }
 
 // One turn: a line whose newline is met is answered, and the beginning of another is held.
@@ -47,11 +47,10 @@ fn answer_next(
     requires { TurnReady chunk.now held.old out.old progress }
     ensures { TurnDoes (tables index.old keys.old used.old) chunk.now held.old out.old progress (tables index.new keys.new used.new) held.new out.new result }
 {
-    let next = book_input::take_next(chunk, held, progress);
-    if next.whole {
-        return answer_held(index, keys, used, held, out, next.progress);
+    match book_input::take_next(chunk, held, progress) {
+        Next::Whole(taken) => answer_held(index, keys, used, held, out, taken),
+        Next::Part(taken) => taken,
     }
-    next.progress
 }
 
 // Line after line, until the chunk is at its end or `out` has no room for one more answer.
@@ -68,10 +67,7 @@ pub fn answer_chunk(
     ensures { ChunkDoes (tables index.old keys.old used.old) chunk.now held.old out.old progress (tables index.new keys.new used.new) held.new out.new result }
 {
     let mut p = progress;
-    while p.at < chunk.len() {
-        if out.len() - p.filled < 256 {
-            return p;
-        }
+    while p.at < chunk.len() && out.len() - p.filled >= ROOM {
         p = answer_next(index, keys, used, chunk, held, out, p);
     }
     p

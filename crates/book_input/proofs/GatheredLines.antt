@@ -7,9 +7,8 @@ use native.Mathlib.Omega.{arith}
 use lib.Dec.{eqb}
 use lib.ListN.{length, take, drop, length-take}
 use lib.Seq.{take_all, take-take, take-append_seam, drop-drop}
-use Rattle.book_input.specs.declared.Taken.{Taken}
 use Rattle.book_input.specs.Lines.{up_to_newline, has_newline, behind_newline, begun_before, lines_of, cut, lines_met, left_open}
-use Rattle.book_input.specs.Gathering.{Takes, Passes}
+use Rattle.book_input.specs.Gathering.{Taken, Takes, Passes}
 use Rattle.book_input.proofs.TakenPlaces.{cut_short}
 
 no_newline_there : {A : Type 0} → false ≡ true → A

@@ -1,117 +1,95 @@
--- One byte after the other: what is taken from a place on, by what is taken from the next place on. Assumes nothing.
-use mathlib.Core.Path.{◌≡◌, refl, sym, ap, ◌∙◌}
-use mathlib.Core.Bool.{Bool, true, false}
-use mathlib.Core.List.{List, [], ◌∷◌, ◌++◌, append_assoc, append-nil}
-use Prim.Native.Nat.{ℕ, suc, ◌+◌, ◌≤◌, ◌<◌}
-use native.Mathlib.Numerals.{add-one}
-use native.Mathlib.Omega.{arith}
-use lib.Dec.{eqb, ltb}
-use lib.ListN.{length, take, drop, get_or, set, length-set, length-append, length-take, take-append-drop, drop_of_length-le}
-use lib.Seq.{length-take-le, take_all, take-append-le, drop-cons, take-suc-set, drop-set-lt}
-use borrow.Author.Tests.{eq-eqb, ne_eqb, ltb-true, ltb-false}
-use Rattle.book_input.specs.declared.Taken.{Taken}
-use Rattle.book_input.specs.Lines.{up_to_newline, has_newline, behind_newline, cut}
-use Rattle.book_input.specs.Gathering.{TakePre, Keeps, Takes, gathered}
-
--- ---- the three readings of a chunk from a place on
-
-up_to_none : (s : List ℕ) → s ≡ [] → (up_to_newline s ≡ []) × (behind_newline s ≡ 0) × (has_newline s ≡ false)
-unfolding up_to_newline behind_newline has_newline
-up_to_none s e = (ap up_to_newline e, ap behind_newline e, ap has_newline e)
-
-up_to_newline_lem : (s t : List ℕ) (b : ℕ) → s ≡ b ∷ t → eqb b 10 ≡ true → (up_to_newline s ≡ []) × (behind_newline s ≡ 1) × (has_newline s ≡ true)
-unfolding up_to_newline behind_newline has_newline
-up_to_newline_lem s t b e n = (rw (e, n), rw (e, n), rw (e, n))
-
-up_to_byte : (s t : List ℕ) (b : ℕ) → s ≡ b ∷ t → eqb b 10 ≡ false
-    → (up_to_newline s ≡ b ∷ up_to_newline t) × (behind_newline s ≡ suc (behind_newline t)) × (has_newline s ≡ has_newline t)
-unfolding up_to_newline behind_newline has_newline
-up_to_byte s t b e n = (rw (e, n), rw (e, n), rw (e, n))
+-- What a chunk has of a line, by where its first newline is, and what is held of it. Assumes nothing.
+use Rattle.std.proofs.Common.{◌≡◌, refl, sym, ap, ◌∙◌, Bool, true, false, cond, List, [], ◌∷◌, ◌++◌, append_assoc, ℕ, suc, ◌+◌, ◌-◌, ◌≤◌, ◌<◌, arith, length, take, drop, min, length-append, position, Some, None, ◌==◌, nat_lt, not, length-drop}
+use Rattle.std.proofs.Math.Numerals.{one-add}
+use Rattle.std.proofs.lemmas.Bool.{ltb-true, ltb-false}
+use Rattle.std.proofs.lemmas.List.{take_min, length-take-le}
+use Rattle.std.proofs.Math.Seq.{take-append-add, drop-drop}
+use Rattle.std.specs.List.{position_or_len}
+use Rattle.book_input.specs.Lines.{up_to_newline, has_newline, behind_newline}
+use Rattle.book_input.specs.Gathering.{TakePre, Keeps, kept_of, Takes, gathered}
 
 -- ---- the held bytes
 
--- A cut list is at least as long as a front that fits.
-cut_front : (xs ys : List ℕ) → length xs ≤ 81 → length xs ≤ length (cut (xs ++ ys))
-cut_front xs ys h = rw (length-take, length-append) (omega arith)
+-- They are the held ones and as many of the line as fit behind them.
+kept_is : (held line : List ℕ) (n k : ℕ) → n ≤ length held → k ≡ min (length line) (length held - n) → kept_of held n line ≡ take n held ++ take k line
+kept_is held line n k h e =
+    let front : length (take n held) ≡ n = length-take-le n held h in
+    let all : length held ≡ length (take n held) + (length held - n) = omega arith in
+    let some : k ≡ min (length held - n) (length line) = omega arith in
+    rw (some, take_min) (ap (λ m. take m (take n held ++ line)) all ∙ take-append-add (take n held) line (length held - n))
 
--- What is held alone fits.
-held_alone : (held u : List ℕ) (n : ℕ) → n ≤ 81 → length held ≡ 81 → u ≡ [] → cut (take n held ++ u) ≡ take n held
-held_alone held u n h l e = rw (e, append-nil) (take_all 81 (take n held) (rw (length-take-le n held (omega arith)) h))
+-- The bytes that are put behind the first n, to the end of the slice at most.
+pub keeps : (held line piece : List ℕ) (n k m : ℕ) → n ≤ length held → k ≡ min (length line) (length held - n) → m ≡ k → piece ≡ take k line
+    → Keeps held n line (take n held ++ (piece ++ drop m (drop n held))) (n + k)
+keeps held line piece n k m h e same p =
+    let kept = kept_is held line n k h e in
+    let long : n + k ≡ length (kept_of held n line) = rw (kept, length-append, length-take-le n held h, length-take-le k line (omega arith)) refl in
+    record { bytes = rw (← long, kept, same, p, append_assoc, ← drop-drop k n held) refl; many = long }
 
--- A byte more, held
-held_more : (held u : List ℕ) (n b : ℕ) → n < 81 → length held ≡ 81 → cut (take (n + 1) (set held n b) ++ u) ≡ cut (take n held ++ b ∷ u)
-held_more held u n b h l = rw (add-one, take-suc-set held n b (omega arith), append_assoc)
+-- ---- the first newline
 
--- or dropped.
-held_full : (held u v : List ℕ) (n : ℕ) → 81 ≤ n → length held ≡ 81 → cut (take n held ++ u) ≡ cut (take n held ++ v)
-held_full held u v n h l = rw (take_all n held (omega arith), take-append-le 81 held u (omega arith), take-append-le 81 held v (omega arith))
+-- Its place, or the length where there is none.
+abbrev newline_place : List ℕ → ℕ
+newline_place s = position_or_len (λ (b : ℕ). b == 10) s
 
--- The line is the same, gathered from the next byte on.
-held_byte : (held after u : List ℕ) (n m b : ℕ) → n ≤ 81 → length held ≡ 81 → Keeps held n b after m → cut (take m after ++ u) ≡ cut (take n held ++ b ∷ u)
-held_byte held after u n m b h l k = go (ltb n 81) refl where
-  go : (t : Bool) → ltb n 81 ≡ t → cut (take m after ++ u) ≡ cut (take n held ++ b ∷ u)
-  go true e = rw (k.stored (ltb-true n 81 e), k.more (ltb-true n 81 e)) (held_more held u n b (ltb-true n 81 e) l)
-  go false e = rw (k.full (ltb-false n 81 e), k.same (ltb-false n 81 e)) (held_full held u (b ∷ u) n (ltb-false n 81 e) l)
+-- The line that it ends, and how many bytes stand up to it;
+cut_there : (s : List ℕ) → newline_place s < length s
+    → (up_to_newline s ≡ take (newline_place s) s) × (has_newline s ≡ true) × (behind_newline s ≡ newline_place s + 1)
+unfolding up_to_newline has_newline behind_newline
+cut_there [] h = absurd (omega arith)
+cut_there (b ∷ s) h = go (b == 10) (cut_there s) h where
+  go : (t : Bool) → (newline_place s < length s → (up_to_newline s ≡ take (newline_place s) s) × (has_newline s ≡ true) × (behind_newline s ≡ newline_place s + 1))
+      → cond (not t) (1 + newline_place s) 0 < suc (length s)
+      → (cond t [] (b ∷ up_to_newline s) ≡ take (cond (not t) (1 + newline_place s) 0) (b ∷ s)) × (cond t true (has_newline s) ≡ true)
+      × (suc (cond t 0 (behind_newline s)) ≡ cond (not t) (1 + newline_place s) 0 + 1)
+  go true rest h = (refl, refl, refl)
+  go false rest h = let r = rest (omega arith) in (rw (one-add, r.0), r.1, omega (arith, r.2))
 
--- The bytes behind it are as they were.
-held_rest : (held after u : List ℕ) (n m b : ℕ) → n ≤ 81 → length held ≡ 81 → Keeps held n b after m
-    → drop (length (cut (take n held ++ b ∷ u))) after ≡ drop (length (cut (take n held ++ b ∷ u))) held
-held_rest held after u n m b h l k = go (ltb n 81) refl where
-  longer : n < 81 → n < length (cut (take n held ++ b ∷ u))
-  longer less = rw (length-take, length-append, length-take-le n held (omega arith)) (omega arith)
+-- all bytes, where there is none.
+cut_nowhere : (s : List ℕ) → length s ≤ newline_place s → (up_to_newline s ≡ s) × (has_newline s ≡ false) × (behind_newline s ≡ length s)
+unfolding up_to_newline has_newline behind_newline
+cut_nowhere [] h = (refl, refl, refl)
+cut_nowhere (b ∷ s) h = go (b == 10) (cut_nowhere s) h where
+  go : (t : Bool) → (length s ≤ newline_place s → (up_to_newline s ≡ s) × (has_newline s ≡ false) × (behind_newline s ≡ length s))
+      → suc (length s) ≤ cond (not t) (1 + newline_place s) 0
+      → (cond t [] (b ∷ up_to_newline s) ≡ b ∷ s) × (cond t true (has_newline s) ≡ false) × (suc (cond t 0 (behind_newline s)) ≡ suc (length s))
+  go true rest h = absurd (omega arith)
+  go false rest h = let r = rest (omega arith) in (rw r.0, r.1, omega (arith, r.2))
 
-  go : (t : Bool) → ltb n 81 ≡ t → drop (length (cut (take n held ++ b ∷ u))) after ≡ drop (length (cut (take n held ++ b ∷ u))) held
-  go true e = rw (k.stored (ltb-true n 81 e)) (drop-set-lt _ held n b (longer (ltb-true n 81 e)))
-  go false e = rw (k.full (ltb-false n 81 e))
+-- What `position` says of it.
+place_some : (s : List ℕ) (i : ℕ) → Some i ≡ position (λ (b : ℕ). b == 10) s → (newline_place s < length s) × (newline_place s ≡ i)
+place_some s i found = go (nat_lt (newline_place s) (length s)) refl found where
+  go : (t : Bool) → nat_lt (newline_place s) (length s) ≡ t → Some i ≡ cond t (Some (newline_place s)) None → (newline_place s < length s) × (newline_place s ≡ i)
+  go true e f = (ltb-true _ _ e, cc)
+  go false e f = absurd cc
+
+place_none : (s : List ℕ) → None ≡ position (λ (b : ℕ). b == 10) s → length s ≤ newline_place s
+place_none s found = go (nat_lt (newline_place s) (length s)) refl found where
+  go : (t : Bool) → nat_lt (newline_place s) (length s) ≡ t → None ≡ cond t (Some (newline_place s)) None → length s ≤ newline_place s
+  go true e f = absurd cc
+  go false e f = ltb-false _ _ e
 
 -- ---- a call, from a place on
 
--- The place, the lengths and the bytes of a line that is given.
-taken : (held line : List ℕ) (n : ℕ) → n ≤ 81 → length held ≡ 81 → line ≡ take n held → (held ≡ line ++ drop (length line) held) × (n ≡ length line)
-taken held line n h l e =
-    let many : length line ≡ n = ap length e ∙ length-take-le n held (omega arith) in
-    (rw (many, e) (sym (take-append-drop n held)), sym many)
+module _ {chunk : List ℕ} {at : ℕ} {held : List ℕ} {n : ℕ} {line after : List ℕ} {m : ℕ} (p : TakePre chunk at held n) (k : Keeps held n line after m)
+    (rest : List ℕ) (r : rest ≡ drop at chunk) where
+  -- What is kept is what was gathered.
+  line_gathered : line ≡ up_to_newline (drop at chunk) → kept_of held n line ≡ gathered chunk at held n
+  line_gathered e = rw (p.lent, e)
 
--- At the end of the chunk nothing is taken.
-pub takes_nothing : (chunk : List ℕ) (at : ℕ) (held : List ℕ) (n : ℕ) → length chunk ≤ at → TakePre chunk at held n
-    → Takes chunk at held n held (record { at = at; length = n; whole = false })
-takes_nothing chunk at held n h p =
-    let ends = up_to_none (drop at chunk) (drop_of_length-le chunk h) in
-    let line = taken held _ n p.room p.lent (held_alone held _ n p.room p.lent ends.0) in
-    record { bytes = line.0; many = line.1; place = rw ends.1 (omega arith); ended = sym ends.2 }
+  -- A line that has its newline,
+  pub takes_whole : (place : ℕ) → Some place ≡ position (λ (b : ℕ). b == 10) rest → line ≡ take place rest
+      → Takes chunk at held n after (record { at = at + place + 1; length = m; whole = true })
+  takes_whole place found e =
+      let there = place_some (drop at chunk) place (rw r at found) in
+      let parts = cut_there (drop at chunk) there.0 in
+      let line_is = line_gathered (rw (parts.0, there.1, ← r) e) in
+      record { bytes = rw (← line_is) k.bytes; many = rw (← line_is) k.many; place = rw (parts.2, there.1) (omega arith); ended = sym parts.1 }
 
--- At a newline it alone is taken, and the line is whole.
-pub takes_newline : (chunk : List ℕ) (at : ℕ) (held : List ℕ) (n : ℕ) → at < length chunk → get_or chunk at 0 ≡ 10 → TakePre chunk at held n
-    → Takes chunk at held n held (record { at = at + 1; length = n; whole = true })
-takes_newline chunk at held n h newline p =
-    let ends = up_to_newline_lem (drop at chunk) (drop (suc at) chunk) (get_or chunk at 0) (drop-cons chunk at 0 h) (eq-eqb _ 10 newline) in
-    let line = taken held _ n p.room p.lent (held_alone held _ n p.room p.lent ends.0) in
-    record { bytes = line.0; many = line.1; place = rw ends.1; ended = sym ends.2 }
-
--- At another byte it is kept, and the rest is taken.
-pub takes_byte : (chunk : List ℕ) (at : ℕ) (held : List ℕ) (n : ℕ) (kept : List ℕ) (m : ℕ) (after : List ℕ) (r : Taken)
-    → at < length chunk → (get_or chunk at 0 ≡ 10 → ⊥) → TakePre chunk at held n → Keeps held n (get_or chunk at 0) kept m
-    → Takes chunk (at + 1) kept m after r → Takes chunk at held n after r
-takes_byte chunk at held n kept m after r h other p k t =
-    let byte = up_to_byte (drop at chunk) (drop (suc at) chunk) (get_or chunk at 0) (drop-cons chunk at 0 h) (ne_eqb _ 10 other) in
-    let next : drop (at + 1) chunk ≡ drop (suc at) chunk = rw add-one in
-    let line : gathered chunk (at + 1) kept m ≡ gathered chunk at held n = rw (next, byte.0) (held_byte held kept _ n m _ p.room p.lent k) in
-    let rest : drop (length (gathered chunk at held n)) kept ≡ drop (length (gathered chunk at held n)) held = rw byte.0 (held_rest held kept _ n m _ p.room p.lent k) in
-    record {
-      bytes = t.bytes ∙ rw (line, rest);
-      many = t.many ∙ ap length line;
-      place = t.place ∙ rw (next, byte.1) (omega arith);
-      ended = t.ended ∙ rw (next, byte.2);
-    }
-
--- After a byte is kept the call may go on at the next place.
-pub keeps_pre : (chunk : List ℕ) (at : ℕ) (held : List ℕ) (n b : ℕ) (kept : List ℕ) (m : ℕ)
-    → at < length chunk → TakePre chunk at held n → Keeps held n b kept m → TakePre chunk (at + 1) kept m
-keeps_pre chunk at held n b kept m h p k = go (ltb n 81) refl where
-  go : (t : Bool) → ltb n 81 ≡ t → TakePre chunk (at + 1) kept m
-  go true e = record {
-    inside = omega arith;
-    lent = rw (k.stored (ltb-true n 81 e), length-set) p.lent;
-    room = omega (arith, k.more (ltb-true n 81 e), ltb-true n 81 e);
-  }
-  go false e = record { inside = omega arith; lent = rw (k.full (ltb-false n 81 e)) p.lent; room = rw (k.same (ltb-false n 81 e)) p.room }
+  -- and the part of a line that has not.
+  pub takes_part : None ≡ position (λ (b : ℕ). b == 10) rest → line ≡ rest
+      → Takes chunk at held n after (record { at = length chunk; length = m; whole = false })
+  takes_part found e =
+      let parts = cut_nowhere (drop at chunk) (place_none (drop at chunk) (rw r at found)) in
+      let line_is = line_gathered (rw (parts.0, ← r) e) in
+      record { bytes = rw (← line_is) k.bytes; many = rw (← line_is) k.many; place = rw (parts.2, length-drop) (omega (arith, p.inside)); ended = sym parts.1 }

@@ -6,9 +6,8 @@ use Prim.Native.Nat.{ℕ, suc, ◌≤◌, ◌<◌}
 use native.Mathlib.Omega.{arith}
 use lib.Dec.{eqb}
 use lib.ListN.{length, take, drop, length-append, length-take, length-drop}
-use Rattle.book_input.specs.declared.Taken.{Taken}
 use Rattle.book_input.specs.Lines.{up_to_newline, behind_newline, cut}
-use Rattle.book_input.specs.Gathering.{Takes}
+use Rattle.book_input.specs.Gathering.{Taken, Takes}
 
 behind_inside : (c : List ℕ) → behind_newline c ≤ length c
 unfolding behind_newline

@@ -1,6 +1,5 @@
 -- Taking lines from chunks. Assumes nothing.
-use Rattle.std.specs.Prelude.{◌≡◌, List, ◌++◌, ℕ, ◌+◌, ◌≤◌, ◌<◌, length, take, drop, set}
-use Rattle.book_input.specs.declared.Taken.{Taken}
+use Rattle.std.specs.Prelude.{◌≡◌, Bool, List, ◌++◌, ℕ, ◌+◌, ◌≤◌, length, take, drop}
 use Rattle.book_input.specs.Lines.{up_to_newline, has_newline, behind_newline, cut, lines_met, left_open}
 
 -- The place lies in the chunk, 81 bytes are lent, and at most these are held.
@@ -9,12 +8,20 @@ pub record TakePre (chunk : List ℕ) (from : ℕ) (held : List ℕ) (length₀ 
   pub lent : length held ≡ 81
   pub room : length₀ ≤ 81
 
--- A byte behind the first n of a lent slice: it is stored while fewer than 81 are held, and dropped after that.
-pub record Keeps (held : List ℕ) (n byte : ℕ) (held_after : List ℕ) (n_after : ℕ) : Type 0 where
-  pub stored : n < 81 → held_after ≡ set held n byte
-  pub more : n < 81 → n_after ≡ n + 1
-  pub full : 81 ≤ n → held_after ≡ held
-  pub same : 81 ≤ n → n_after ≡ n
+-- How far a line has been gathered: the place behind what was taken of the chunk, the bytes held of the line, and whether its newline was met.
+pub record Taken : Type 0 where
+  pub at : ℕ
+  pub length : ℕ
+  pub whole : Bool
+
+-- The first n bytes of a lent slice and a line behind them, as much as there is room for.
+abbrev pub kept_of : List ℕ → ℕ → List ℕ → List ℕ
+kept_of held n line = take (length held) (take n held ++ line)
+
+-- They stand at the front of the slice, and the other bytes are as they were.
+pub record Keeps (held : List ℕ) (n : ℕ) (line held_after : List ℕ) (n_after : ℕ) : Type 0 where
+  pub bytes : held_after ≡ kept_of held n line ++ drop (length (kept_of held n line)) held
+  pub many : n_after ≡ length (kept_of held n line)
 
 -- The line held, with what the chunk has of it from a place on.
 abbrev pub gathered : List ℕ → ℕ → List ℕ → ℕ → List ℕ

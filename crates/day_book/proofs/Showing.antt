@@ -6,7 +6,7 @@ use mathlib.Core.List.{List, [], ◌∷◌, ◌++◌}
 use Prim.Native.Nat.{ℕ, zero, suc, ◌≤◌}
 use native.Mathlib.Omega.{arith}
 use lib.Dec.{eqb, leb}
-use lib.ListN.{length, take, drop, replicate}
+use lib.ListN.{length, take, drop, replicate, length-take}
 use Rattle.leaf_list.specs.Herd.{Herd, lookup, records_of}
 use Rattle.leaf_list.specs.Register.{in_use, herd_of}
 use Rattle.leaf_list.proofs.RegisterHerd.{herd_of_holds, lookup_holds}
@@ -99,10 +99,9 @@ module _ {index keys used : List ℕ} {a b : ℕ} {out : List ℕ} {r : Answer} 
       numbers_append (take 32 records) (drop (length records) slice) (numbers_take 32 records (between_numbers s a b (herd_of keys used) (herd_in_use s))) (numbers_drop (length records) slice (zeros_numbers 32))
   slice_numbers false wide e = zeros_numbers 32
 
-  pub list_writable : {page : List ℕ} → length out ≡ 32 → 256 ≤ length page → Writable page out r.count
-  list_writable long room = record {
-    there = omega (arith, count_small, long);
-    few = count_small;
+  pub list_writable : {page : List ℕ} → 256 ≤ length page → Writable page (take r.count out)
+  list_writable room = record {
+    few = rw length-take (omega (arith, count_small));
     numbers = numbers_take r.count out (subst RecordNumbers (sym does.slice) (slice_numbers does.judged.sound (too_wide (width_of index) a || too_wide (width_of index) b) refl));
     room = room;
   }

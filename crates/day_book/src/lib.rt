@@ -21,8 +21,7 @@ fn on_line(
     ensures { OnLineDoes key «record» (tables index.old keys.old used.old) (tables index.new keys.new used.new) number out.old out.new result }
 {
     let a = tag_index::change::on(index, keys, used, key, record);
-    let none = [0u32; 1];
-    write_answer(out, number, a.number, &none, 0, false)
+    write_answer(out, number, a.number, &[], false)
 }
 
 // An `off` line.
@@ -38,8 +37,7 @@ fn off_line(
     ensures { OffLineDoes key (tables index.old keys.old used.old) (tables index.new keys.new used.new) number out.old out.new result }
 {
     let a = tag_index::change::off(index, keys, used, key);
-    let none = [0u32; 1];
-    write_answer(out, number, a.number, &none, 0, false)
+    write_answer(out, number, a.number, &[], false)
 }
 
 // A `find` line.
@@ -55,11 +53,10 @@ fn find_line(
     ensures { FindLineDoes key (tables index.now keys.now used.now) number out.old out.new result }
 {
     let a = tag_index::read::find(index, keys, used, key);
-    let one = [a.record; 1];
     if a.number != 0 {
-        return write_answer(out, number, a.number, &one, 0, false);
+        return write_answer(out, number, a.number, &[], false);
     }
-    write_answer(out, number, a.number, &one, 1, false)
+    write_answer(out, number, a.number, &[a.record], false)
 }
 
 // A `list` line: at most 32 records.
@@ -77,7 +74,8 @@ fn list_line(
 {
     let mut records = [0u32; 32];
     let a = tag_index::read::list(index, keys, used, from, to, &mut records);
-    write_answer(out, number, a.number, &records, a.count as usize, a.more)
+    let listed = &records[..a.count as usize];
+    write_answer(out, number, a.number, listed, a.more)
 }
 
 // A line that asks for no call.
@@ -85,8 +83,7 @@ fn declined_line(refusal: u32, number: u64, out: &mut [u8]) -> usize
     requires { 256 ≤ length out.old }
     ensures { NoneDoes refusal number out.old out.new result }
 {
-    let none = [0u32; 1];
-    write_answer(out, number, refusal, &none, 0, false)
+    write_answer(out, number, refusal, &[], false)
 }
 
 // A line without its newline is answered: the answer line stands at the front of `out`, and its length is given.

@@ -3,13 +3,10 @@ use Rattle.book_chunks.proofs.Passing.{turn_room, turn_part, turn_line}
 use Rattle.book_chunks.proofs.answer_next.Goals as goal
 
 pub answer_held-requires : goal.answer_held-requires
-answer_held-requires c =
-    turn_room c.requires c.take_next-next.ensures
+answer_held-requires c = turn_room c.requires (rw c.in-Whole.is at c.take_next.ensures)
 
-pub returns-then-next : goal.returns-then-next
-returns-then-next c =
-    turn_line c.requires c.take_next-next.ensures c.if-next.true c.answer_held.ensures
+pub returns-in-Whole : goal.returns-in-Whole
+returns-in-Whole c = turn_line c.requires (rw c.in-Whole.is at c.take_next.ensures) c.answer_held.ensures
 
-pub returns : goal.returns
-returns c =
-    turn_part c.requires c.take_next-next.ensures c.if-next.false
+pub returns-in-Part : goal.returns-in-Part
+returns-in-Part c = turn_part c.requires (rw c.in-Part.is at c.take_next.ensures)

@@ -16,7 +16,7 @@ returns-then-a-ne0 c =
     }
 
 pub write_answer-requires-2 : goal.write_answer-requires-2
-write_answer-requires-2 c = record { there = search rules; few = search rules; numbers = (find_small c.find-a.ensures, tt); room = search rules }
+write_answer-requires-2 c = record { few = search rules; numbers = (find_small c.find-a.ensures, tt); room = search rules }
 
 pub returns : goal.returns
 returns c =

@@ -5,7 +5,7 @@ use Rattle.day_book.proofs.Showing.{shown_at, list_writable}
 use Rattle.day_book.proofs.list_line.Goals as goal
 
 pub write_answer-requires : goal.write_answer-requires
-write_answer-requires c = list_writable c.list-a.ensures c.list-a.auto.out c.requires
+write_answer-requires c = list_writable c.list-a.ensures c.requires
 
 pub returns : goal.returns
 returns c =
