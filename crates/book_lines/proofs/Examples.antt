@@ -5,10 +5,13 @@ use Prim.Native.Nat.{ℕ}
 use Prim.Native.Char.{code}
 use Prim.Native.String.{String, [] as nothing, ◌∷◌ as ◌then◌}
 use lib.ListN.{replicate}
+use Rattle.std.specs.Prelude.{Result, Ok, Err}
 use Rattle.tag_code.specs.TagCode.{fields_fit, code_of, packed, unpacked}
 use Rattle.book_tags.specs.Tags.{digit_of, number_after, decimal_tag, hexadecimal_tag, tag_of, record_of}
-use Rattle.book_lines.specs.declared.Said.{Said}
-use Rattle.book_lines.specs.declared.Said.TheVariants as said
+use Rattle.book_lines.specs.declared.Call.{Call}
+use Rattle.book_lines.specs.declared.Call.TheVariants as call
+use Rattle.book_lines.specs.declared.Declined.{Declined}
+use Rattle.book_lines.specs.declared.Declined.TheVariants as declined
 use Rattle.book_lines.specs.Fields.{cut_at_tabs}
 use Rattle.book_lines.specs.Lines.{same_bytes, two_fields, three_fields, meaning}
 
@@ -18,30 +21,30 @@ bytes_of nothing = []
 bytes_of (c then s) = code c ∷ bytes_of s
 
 -- The line `text` says `s`.
-abbrev pub Says : String → Said → Type 0
+abbrev pub Says : String → Result Call Declined → Type 0
 Says text s = meaning (bytes_of text) ≡ s
 
 -- What each of the lines says.
-abbrev pub said_by : List String → List Said
+abbrev pub said_by : List String → List (Result Call Declined)
 said_by [] = []
 said_by (text ∷ texts) = meaning (bytes_of text) ∷ said_by texts
 
 -- The five lines of 01.
-pub lines_of_01 : Says "on\t826000000000017\t5" (said.On 9223599086005911569 5)
-    × Says "on\t826000000000016\t2" (said.On 9223599086005911568 2)
-    × Says "find\t826000000000017" (said.Find 9223599086005911569)
-    × Says "list\t826000000000000\t826274877906943" (said.List 9223599086005911552 9223599360883818495)
-    × Says "off\t826000000000099" (said.Off 9223599086005911651)
+pub lines_of_01 : Says "on\t826000000000017\t5" (Ok (call.On 9223599086005911569 5))
+    × Says "on\t826000000000016\t2" (Ok (call.On 9223599086005911568 2))
+    × Says "find\t826000000000017" (Ok (call.Find 9223599086005911569))
+    × Says "list\t826000000000000\t826274877906943" (Ok (call.List 9223599086005911552 9223599360883818495))
+    × Says "off\t826000000000099" (Ok (call.Off 9223599086005911651))
 unfolding meaning cut_at_tabs two_fields three_fields same_bytes tag_of record_of decimal_tag hexadecimal_tag number_after digit_of packed unpacked fields_fit code_of
 lines_of_01 = (refl, refl, refl, refl, refl)
 
 -- A tag in hexadecimal digits, with any flag and fields; the largest country; leading zeros; the largest record.
-pub good_lines : Says "find\th8000ce8000000011" (said.Find 9223599086005911569)
-    × Says "off\th0000000000000007" (said.Off 7)
-    × Says "find\th7fff0000000000ff" (said.Find 9223090561878065407)
-    × Says "find\t999000000000000" (said.Find 9223646639883812864)
-    × Says "on\t826000000000017\t00005" (said.On 9223599086005911569 5)
-    × Says "on\t826000000000017\t99999" (said.On 9223599086005911569 99999)
+pub good_lines : Says "find\th8000ce8000000011" (Ok (call.Find 9223599086005911569))
+    × Says "off\th0000000000000007" (Ok (call.Off 7))
+    × Says "find\th7fff0000000000ff" (Ok (call.Find 9223090561878065407))
+    × Says "find\t999000000000000" (Ok (call.Find 9223646639883812864))
+    × Says "on\t826000000000017\t00005" (Ok (call.On 9223599086005911569 5))
+    × Says "on\t826000000000017\t99999" (Ok (call.On 9223599086005911569 99999))
 unfolding meaning cut_at_tabs two_fields three_fields same_bytes tag_of record_of decimal_tag hexadecimal_tag number_after digit_of packed unpacked fields_fit code_of
 good_lines = (refl, refl, refl, refl, refl, refl)
 
@@ -57,7 +60,7 @@ pub bad_fields : said_by (""
     ∷ "on\t826000000000017\t\t5"
     ∷ "list\t826000000000017\t826000000000017\t826000000000017"
     ∷ "on\t826000000000017"
-    ∷ "find\t826000000000017\t5" ∷ []) ≡ replicate 12 said.Bad
+    ∷ "find\t826000000000017\t5" ∷ []) ≡ replicate 12 (Err declined.Bad)
 unfolding meaning cut_at_tabs two_fields three_fields same_bytes tag_of record_of decimal_tag hexadecimal_tag number_after digit_of packed unpacked fields_fit code_of
 bad_fields = refl
 
@@ -72,14 +75,14 @@ pub bad_words : said_by ("find\t82600000000017"
     ∷ "on\t826000000000017\t000005"
     ∷ "on\t826000000000017\t+5"
     ∷ "on\t826000000000017\ta"
-    ∷ "find\t826000000000017\r" ∷ []) ≡ replicate 11 said.Bad
+    ∷ "find\t826000000000017\r" ∷ []) ≡ replicate 11 (Err declined.Bad)
 unfolding meaning cut_at_tabs two_fields three_fields same_bytes tag_of record_of decimal_tag hexadecimal_tag number_after digit_of packed unpacked fields_fit code_of
 bad_words = refl
 
 -- 10 stands before 11: a tag out of range on a line that is bad elsewhere.
 pub bad_before_range : said_by ("on\t826274877906944\tx"
     ∷ "list\t826274877906944\t82600000000001"
-    ∷ "list\t82600000000001\t826274877906944" ∷ []) ≡ replicate 3 said.Bad
+    ∷ "list\t82600000000001\t826274877906944" ∷ []) ≡ replicate 3 (Err declined.Bad)
 unfolding meaning cut_at_tabs two_fields three_fields same_bytes tag_of record_of decimal_tag hexadecimal_tag number_after digit_of packed unpacked fields_fit code_of
 bad_before_range = refl
 
@@ -91,11 +94,11 @@ pub out_of_range : said_by ("find\t826274877906944"
     ∷ "on\t826274877906944\t5"
     ∷ "list\t826274877906944\t826000000000017"
     ∷ "list\t826000000000017\t826274877906944"
-    ∷ "list\th8000fa0000000000\t826274877906944" ∷ []) ≡ replicate 8 said.OutOfRange
+    ∷ "list\th8000fa0000000000\t826274877906944" ∷ []) ≡ replicate 8 (Err declined.OutOfRange)
 unfolding meaning cut_at_tabs two_fields three_fields same_bytes tag_of record_of decimal_tag hexadecimal_tag number_after digit_of packed unpacked fields_fit code_of
 out_of_range = refl
 
 -- A line of 81 bytes.
-pub long_line : meaning (bytes_of "find\t826000000000017" ++ replicate 61 48) ≡ said.Bad
+pub long_line : meaning (bytes_of "find\t826000000000017" ++ replicate 61 48) ≡ Err declined.Bad
 unfolding meaning cut_at_tabs two_fields three_fields same_bytes tag_of record_of decimal_tag hexadecimal_tag number_after digit_of packed unpacked fields_fit code_of
 long_line = refl

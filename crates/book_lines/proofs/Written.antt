@@ -1,5 +1,5 @@
 -- The plain way to write what a line says, and that it is read back. Assumes nothing.
-use mathlib.Core.Path.{◌≡◌, refl, ap, ap₂, ◌∙◌}
+use mathlib.Core.Path.{◌≡◌, refl, sym, ap, ap₂, ◌∙◌}
 use mathlib.Core.Bool.{Bool, true, false, cond}
 use mathlib.Core.List.{List, [], ◌∷◌, ◌++◌}
 use Prim.Native.Nat.{ℕ, zero, suc, ◌+◌, ◌*◌, ◌/◌, ◌%◌, ◌^◌, ◌≤◌, ◌<◌}
@@ -8,15 +8,16 @@ use native.Mathlib.Nat.{add-mul, mul_assoc, pow-zero, pow-succ', one-le-pow, mod
 use lib.Dec.{ltb}
 use lib.ListN.{length, length-append}
 use borrow.Author.Tests.{lt-ltb, ltb-true, ltb-false, ne_eqb}
-use Rattle.tag_code.specs.TagCode.{bits_of, unpacked}
-use Rattle.tag_code.proofs.Codes.{unpack_accepts}
-use Rattle.book_tags.specs.declared.digits.Number.TheVariants as number
-use Rattle.book_tags.specs.declared.Tag.TheVariants as tag
+use Rattle.std.specs.Prelude.{Some, Result, Ok, Err}
+use Rattle.tag_code.specs.TagCode.{bits_of, fields_of, unpacked}
+use Rattle.tag_code.proofs.Codes.{unpacked_done}
 use Rattle.book_tags.specs.Tags.{digit_of, number_after, number_of, hexadecimal_tag, tag_of, record_of}
 use Rattle.book_tags.proofs.NumberLaws.{digit_decimal, digit_letter}
 use Rattle.book_tags.proofs.TagLaws.{hexadecimal_key, tag_hexadecimal, record_number}
-use Rattle.book_lines.specs.declared.Said.{Said}
-use Rattle.book_lines.specs.declared.Said.TheVariants as said
+use Rattle.book_lines.specs.declared.Call.{Call}
+use Rattle.book_lines.specs.declared.Call.TheVariants as call
+use Rattle.book_lines.specs.declared.Declined.{Declined}
+use Rattle.book_lines.specs.declared.Declined.TheVariants as declined
 use Rattle.book_lines.specs.Fields.{tab, cut_at_tabs}
 use Rattle.book_lines.specs.Lines.{
   same_bytes,
@@ -63,13 +64,13 @@ abbrev pub three_written : List ℕ → List ℕ → List ℕ → List ℕ
 three_written verb second third = verb ++ tab ∷ (second ++ tab ∷ third)
 
 -- The plain way to write each line; an empty line is bad, and country 1000 out of range.
-unfoldable pub written : Said → List ℕ
-written (said.On key value) = three_written on_word (written_tag key) (written_record value)
-written (said.Off key) = two_written off_word (written_tag key)
-written (said.Find key) = two_written find_word (written_tag key)
-written (said.List from to) = three_written list_word (written_tag from) (written_tag to)
-written said.Bad = []
-written said.OutOfRange = two_written find_word (written_tag (1000 * 2 ^ 38))
+unfoldable pub written : Result Call Declined → List ℕ
+written (Ok (call.On key value)) = three_written on_word (written_tag key) (written_record value)
+written (Ok (call.Off key)) = two_written off_word (written_tag key)
+written (Ok (call.Find key)) = two_written find_word (written_tag key)
+written (Ok (call.List from to)) = three_written list_word (written_tag from) (written_tag to)
+written (Err declined.Bad) = []
+written (Err declined.OutOfRange) = two_written find_word (written_tag (1000 * 2 ^ 38))
 
 -- A key of 64 bits whose country is at most 999.
 pub record GoodKey (key : ℕ) : Type 0 where
@@ -77,13 +78,13 @@ pub record GoodKey (key : ℕ) : Type 0 where
   pub country : bits_of 17 26 key ≤ 999
 
 -- What a line can say: its keys are good, its record is at most 99999.
-abbrev pub Writable : Said → Type 0
-Writable (said.On key value) = GoodKey key × (value ≤ 99999)
-Writable (said.Off key) = GoodKey key
-Writable (said.Find key) = GoodKey key
-Writable (said.List from to) = GoodKey from × GoodKey to
-Writable said.Bad = Unit {0}
-Writable said.OutOfRange = Unit {0}
+abbrev pub Writable : Result Call Declined → Type 0
+Writable (Ok (call.On key value)) = GoodKey key × (value ≤ 99999)
+Writable (Ok (call.Off key)) = GoodKey key
+Writable (Ok (call.Find key)) = GoodKey key
+Writable (Ok (call.List from to)) = GoodKey from × GoodKey to
+Writable (Err declined.Bad) = Unit {0}
+Writable (Err declined.OutOfRange) = Unit {0}
 
 -- A digit is read as itself, and is no tab.
 letter_back : (d : ℕ) → d < 16 → digit_of (letter d) ≡ d
@@ -117,27 +118,27 @@ division base v x n =
     let g : v * base ^ suc n ≡ v * (base * power) = ap (λ p. v * p) (pow-succ' base n) in
     omega (arith, div-add-mod' x power)
 
-digits_number : (base : ℕ) → 0 < base → base ≤ 16 → (n v x : ℕ) → x < base ^ n → number_after base v (digits_of base n x) ≡ number.Is (v * base ^ n + x)
+digits_number : (base : ℕ) → 0 < base → base ≤ 16 → (n v x : ℕ) → x < base ^ n → number_after base v (digits_of base n x) ≡ Some (v * base ^ n + x)
 unfolding digits_of number_after
 digits_number base p h zero v x k =
     let e : v * base ^ 0 ≡ v * 1 = ap (λ p. v * p) (pow-zero base) in
-    ap number.Is (omega (arith, pow-zero base))
+    ap Some (omega (arith, pow-zero base))
 digits_number base p h (suc n) v x k =
     let power : 0 < base ^ n = one-le-pow n base p in
     let small : x / base ^ n < base = (div-lt_iff_lt-mul power).1 (omega (arith, pow-succ' base n)) in
     let back : digit_of (letter (x / base ^ n)) ≡ x / base ^ n = letter_back (x / base ^ n) (omega arith) in
     rw (back, lt-ltb (x / base ^ n) base small)
-    (digits_number base p h n (v * base + x / base ^ n) (x % base ^ n) (mod-lt x power) ∙ ap number.Is (division base v x n))
+    (digits_number base p h n (v * base + x / base ^ n) (x % base ^ n) (mod-lt x power) ∙ ap Some (division base v x n))
 
-digits_back : (base : ℕ) → 0 < base → base ≤ 16 → (n x : ℕ) → x < base ^ n → number_of base (digits_of base n x) ≡ number.Is x
-digits_back base p h n x k = digits_number base p h n 0 x k ∙ ap number.Is (omega arith)
+digits_back : (base : ℕ) → 0 < base → base ≤ 16 → (n x : ℕ) → x < base ^ n → number_of base (digits_of base n x) ≡ Some x
+digits_back base p h n x k = digits_number base p h n 0 x k ∙ ap Some (omega arith)
 
 -- A tag and a record are read back.
-tag_back : (key : ℕ) → GoodKey key → tag_of (written_tag key) ≡ tag.Key key
+tag_back : (key : ℕ) → GoodKey key → tag_of (written_tag key) ≡ Ok key
 tag_back key h =
     tag_hexadecimal (written_tag key) (ap suc (digits_length 16 16 key)) refl
     ∙ ap hexadecimal_tag (digits_back 16 (omega arith) (omega arith) 16 key (omega (arith, h.wide)))
-    ∙ hexadecimal_key (number.Is key) key refl (unpacked key) refl ((unpack_accepts key).1 h.country)
+    ∙ hexadecimal_key {x = Some key} {code = key} refl {answer = Ok (fields_of key)} (sym (unpacked_done key h.country)) refl
 
 record Width (r n : ℕ) : Type 0 where
   some : 1 ≤ n
@@ -155,7 +156,7 @@ width_fits r h = go (ltb r 10) (ltb r 100) (ltb r 1000) (ltb r 10000) refl refl 
     go false false false true e f g k = record { some = omega arith; few = omega arith; fits = ltb-true r 10000 k }
     go false false false false e f g k = record { some = omega arith; few = omega arith; fits = omega arith }
 
-record_back : (r : ℕ) → r ≤ 99999 → record_of (written_record r) ≡ number.Is r
+record_back : (r : ℕ) → r ≤ 99999 → record_of (written_record r) ≡ Some r
 record_back r h =
     let w = width_fits r h in
     let n = digits_length 10 (width r) r in
@@ -224,45 +225,45 @@ find_no_tab = ((λ e. omega arith), ((λ e. omega arith), ((λ e. omega arith), 
 list_no_tab : NoTab list_word
 list_no_tab = ((λ e. omega arith), ((λ e. omega arith), ((λ e. omega arith), ((λ e. omega arith), tt))))
 
-on_back : (key value : ℕ) → GoodKey key → value ≤ 99999 → meaning (written (said.On key value)) ≡ said.On key value
+on_back : (key value : ℕ) → GoodKey key → value ≤ 99999 → meaning (written (Ok (call.On key value))) ≡ Ok (call.On key value)
 unfolding written same_bytes
 on_back key value h k =
     three_says on_word (written_tag key) (written_record value) on_no_tab (tag_no_tab key) (digits_no_tab 10 (width value) value) (omega arith)
     (tag_length key)
     (omega (arith, digits_length 10 (width value) value, (width_fits value k).few))
-    ∙ says_on on_word (written_tag key) (written_record value) true refl refl
+    ∙ says_on on_word (written_tag key) (written_record value) refl refl refl
     ∙ ap₂ on_line (tag_back key h) (record_back value k)
 
-list_back : (from to : ℕ) → GoodKey from → GoodKey to → meaning (written (said.List from to)) ≡ said.List from to
+list_back : (from to : ℕ) → GoodKey from → GoodKey to → meaning (written (Ok (call.List from to))) ≡ Ok (call.List from to)
 unfolding written same_bytes
 list_back from to h k =
     three_says list_word (written_tag from) (written_tag to) list_no_tab (tag_no_tab from) (tag_no_tab to) (omega arith) (tag_length from) (tag_length to)
-    ∙ says_list list_word (written_tag from) (written_tag to) false refl refl true refl refl
+    ∙ says_list list_word (written_tag from) (written_tag to) refl refl refl refl refl
     ∙ ap₂ list_line (tag_back from h) (tag_back to k)
 
-off_back : (key : ℕ) → GoodKey key → meaning (written (said.Off key)) ≡ said.Off key
+off_back : (key : ℕ) → GoodKey key → meaning (written (Ok (call.Off key))) ≡ Ok (call.Off key)
 unfolding written same_bytes
 off_back key h =
     two_says off_word (written_tag key) off_no_tab (tag_no_tab key) (omega arith) (tag_length key)
-    ∙ says_off off_word (written_tag key) true refl refl
+    ∙ says_off off_word (written_tag key) refl refl refl refl
     ∙ ap off_line (tag_back key h)
 
-find_back : (key : ℕ) → GoodKey key → meaning (written (said.Find key)) ≡ said.Find key
+find_back : (key : ℕ) → GoodKey key → meaning (written (Ok (call.Find key))) ≡ Ok (call.Find key)
 unfolding written same_bytes
 find_back key h =
     two_says find_word (written_tag key) find_no_tab (tag_no_tab key) (omega arith) (tag_length key)
-    ∙ says_find find_word (written_tag key) false refl refl true refl refl
+    ∙ says_find find_word (written_tag key) refl refl refl refl refl
     ∙ ap find_line (tag_back key h)
 
-refused_back : (meaning (written said.Bad) ≡ said.Bad) × (meaning (written said.OutOfRange) ≡ said.OutOfRange)
+refused_back : (meaning (written (Err declined.Bad)) ≡ Err declined.Bad) × (meaning (written (Err declined.OutOfRange)) ≡ Err declined.OutOfRange)
 unfolding written digits_of letter meaning cut_at_tabs two_fields same_bytes tag_of hexadecimal_tag number_after digit_of unpacked
 refused_back = (refl, refl)
 
 -- Whatever a line can say is said by the line that is written for it.
-pub written_read : (s : Said) → Writable s → meaning (written s) ≡ s
-written_read (said.On key value) h = on_back key value h.0 h.1
-written_read (said.Off key) h = off_back key h
-written_read (said.Find key) h = find_back key h
-written_read (said.List from to) h = list_back from to h.0 h.1
-written_read said.Bad h = refused_back.0
-written_read said.OutOfRange h = refused_back.1
+pub written_read : (s : Result Call Declined) → Writable s → meaning (written s) ≡ s
+written_read (Ok (call.On key value)) h = on_back key value h.0 h.1
+written_read (Ok (call.Off key)) h = off_back key h
+written_read (Ok (call.Find key)) h = find_back key h
+written_read (Ok (call.List from to)) h = list_back from to h.0 h.1
+written_read (Err declined.Bad) h = refused_back.0
+written_read (Err declined.OutOfRange) h = refused_back.1

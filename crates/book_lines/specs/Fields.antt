@@ -1,5 +1,5 @@
 -- The fields of a line, "parted by one tab" (01, "Day-book program"). Assumes nothing.
-use Rattle.std.specs.Prelude.{◌≡◌, cond, List, [], ◌∷◌, ℕ, suc, ◌≤◌, eqb, length}
+use Rattle.std.specs.Prelude.{cond, List, [], ◌∷◌, ℕ, eqb}
 
 -- The byte between two fields.
 abbrev pub tab : ℕ
@@ -14,13 +14,3 @@ in_front byte (field ∷ fields) = (byte ∷ field) ∷ fields
 unfoldable pub cut_at_tabs : List ℕ → List (List ℕ)
 cut_at_tabs [] = [] ∷ []
 cut_at_tabs (byte ∷ bytes) = cond (eqb byte tab) ([] ∷ cut_at_tabs bytes) (in_front byte (cut_at_tabs bytes))
-
--- How many bytes stand before the first tab.
-unfoldable pub field_length : List ℕ → ℕ
-field_length [] = 0
-field_length (byte ∷ bytes) = cond (eqb byte tab) 0 (suc (field_length bytes))
-
--- Where the first field ends.
-pub record FieldEnd (line : List ℕ) (end : ℕ) : Type 0 where
-  pub counted : end ≡ field_length line
-  pub within : end ≤ length line

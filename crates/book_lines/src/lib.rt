@@ -1,134 +1,134 @@
 // What a line of the day book says (01, "Day-book program").
 #![tactic(auto)]
 
-mod fields;
-
 ghost use Rattle.std.specs.Prelude.{◌≡◌};
 ghost use Rattle.book_tags.specs.Tags.{record_at_most};
-ghost use Rattle.book_lines.specs.Lines.{meaning, two_fields, three_fields, on_line, off_line, find_line, list_line};
+ghost use Rattle.book_lines.specs.Lines.{declined_for, declined_number, meaning, two_fields, three_fields, on_line, list_line};
 
-use book_tags::Tag;
-use book_tags::digits::Number;
-use book_tags::parts::{bytes_after, first_bytes};
+use book_tags::{TagError, read_record, read_tag};
+use std::error::Error;
+use std::fmt;
+use tag_code::OutOfRange;
 
-// What a line says: a call with its arguments, or why there is none (10: bad line; 11: out of range).
-#[derive(Clone, Copy)]
-pub enum Said {
+// A call that a line asks for, with its arguments.
+#[derive(Clone, Copy, Debug, PartialEq, Eq)]
+pub enum Call {
     On { key: u64, record: u32 },
     Off { key: u64 },
     Find { key: u64 },
     List { from: u64, to: u64 },
+}
+
+// Why a line asks for no call.
+#[derive(Clone, Copy, Debug, PartialEq, Eq)]
+pub enum Declined {
     Bad,
     OutOfRange,
 }
 
-// `on` tag record.
-fn on_line(tag: Tag, written: Number) -> Said
+impl Declined {
+    // The answer number of such a line: 10 for a bad line, 11 for a tag out of range.
+    pub fn number(self) -> u32
+        ensures { result ≡ declined_number self }
+    {
+        match self {
+            Declined::Bad => 10,
+            Declined::OutOfRange => OutOfRange::NUMBER,
+        }
+    }
+}
+
+impl fmt::Display for Declined {
+    fn fmt<W: fmt::Write>(&self, f: &mut fmt::Formatter<W>) -> fmt::Result {
+        match self {
+            Declined::Bad => write!(f, "bad line"),
+            Declined::OutOfRange => OutOfRange.fmt(f),
+        }
+    }
+}
+
+impl Error for Declined {}
+
+impl From<TagError> for Declined {
+    ghost from_gives = { λ e declined. declined ≡ declined_for e };
+
+    fn from(e: TagError) -> Self {
+        match e {
+            TagError::Malformed => Declined::Bad,
+            TagError::OutOfRange => Declined::OutOfRange,
+        }
+    }
+}
+
+// `on` tag record: a record that is none is bad, be the tag out of range or not.
+fn on_line(tag: Result<u64, TagError>, written: Option<u64>) -> Result<Call, Declined>
     requires { record_at_most 99999 written }
     ensures { result ≡ on_line tag written }
 {
-    let Number::Is(number) = written else {
-        return Said::Bad;
+    let Some(number) = written else {
+        return Err(Declined::Bad);
     };
-    match tag {
-        Tag::Key(key) => Said::On {
-            key,
-            record: number as u32,
-        },
-        Tag::OutOfRange => Said::OutOfRange,
-        Tag::Malformed => Said::Bad,
-    }
+    Ok(Call::On {
+        key: tag?,
+        record: number as u32,
+    })
 }
 
-// `list` tag tag.
-fn list_line(first: Tag, last: Tag) -> Said
+// `list` tag tag: a tag that is none is bad, be the other out of range or not.
+fn list_line(first: Result<u64, TagError>, last: Result<u64, TagError>) -> Result<Call, Declined>
     ensures { result ≡ list_line first last }
 {
-    match first {
-        Tag::Malformed => Said::Bad,
-        Tag::OutOfRange => match last {
-            Tag::Malformed => Said::Bad,
-            Tag::OutOfRange => Said::OutOfRange,
-            Tag::Key(_) => Said::OutOfRange,
-        },
-        Tag::Key(from) => match last {
-            Tag::Malformed => Said::Bad,
-            Tag::OutOfRange => Said::OutOfRange,
-            Tag::Key(to) => Said::List { from, to },
-        },
-    }
-}
-
-// `off` tag.
-fn off_line(tag: Tag) -> Said
-    ensures { result ≡ off_line tag }
-{
-    match tag {
-        Tag::Key(key) => Said::Off { key },
-        Tag::OutOfRange => Said::OutOfRange,
-        Tag::Malformed => Said::Bad,
-    }
-}
-
-// `find` tag.
-fn find_line(tag: Tag) -> Said
-    ensures { result ≡ find_line tag }
-{
-    match tag {
-        Tag::Key(key) => Said::Find { key },
-        Tag::OutOfRange => Said::OutOfRange,
-        Tag::Malformed => Said::Bad,
+    match (first, last) {
+        (Err(TagError::Malformed), _) | (_, Err(TagError::Malformed)) => Err(Declined::Bad),
+        (first, last) => Ok(Call::List {
+            from: first?,
+            to: last?,
+        }),
     }
 }
 
 // A line of two fields: `off` tag, `find` tag.
-fn two_fields(verb: &[u8], second: &[u8]) -> Said
+#[tactic(auto, using(crate::proofs::LineLaws::says_off, crate::proofs::LineLaws::says_find, crate::proofs::LineLaws::says_neither))]
+fn two_fields(verb: &[u8], second: &[u8]) -> Result<Call, Declined>
     ensures { result ≡ two_fields verb.now second.now }
 {
-    if fields::same_bytes(verb, b"off") {
-        return off_line(book_tags::read_tag(second));
+    match verb {
+        b"off" => Ok(Call::Off {
+            key: read_tag(second)?,
+        }),
+        b"find" => Ok(Call::Find {
+            key: read_tag(second)?,
+        }),
+        _ => Err(Declined::Bad),
     }
-    if fields::same_bytes(verb, b"find") {
-        return find_line(book_tags::read_tag(second));
-    }
-    Said::Bad
 }
 
 // A line of three fields: `on` tag record, `list` tag tag.
-fn three_fields(verb: &[u8], second: &[u8], third: &[u8]) -> Said
+#[tactic(auto, using(crate::proofs::LineLaws::says_on, crate::proofs::LineLaws::says_list, crate::proofs::LineLaws::says_none))]
+fn three_fields(verb: &[u8], second: &[u8], third: &[u8]) -> Result<Call, Declined>
     ensures { result ≡ three_fields verb.now second.now third.now }
 {
-    if fields::same_bytes(verb, b"on") {
-        return on_line(book_tags::read_tag(second), book_tags::read_record(third));
+    match verb {
+        b"on" => on_line(read_tag(second), read_record(third)),
+        b"list" => list_line(read_tag(second), read_tag(third)),
+        _ => Err(Declined::Bad),
     }
-    if fields::same_bytes(verb, b"list") {
-        return list_line(book_tags::read_tag(second), book_tags::read_tag(third));
-    }
-    Said::Bad
 }
 
-// What a line, given without its newline, says.
-pub fn read_line(line: &[u8]) -> Said
+// What a line, given without its newline, says: a call, or why there is none.
+pub fn read_line(line: &[u8]) -> Result<Call, Declined>
     ensures { result ≡ meaning line.now }
 {
     if line.len() > 80 {
-        return Said::Bad;
+        return Err(Declined::Bad);
     }
-    let end = fields::field_end(line);
-    if end == line.len() {
-        return Said::Bad;
+    let mut fields = line.split(|&byte| byte == b'\t');
+    let (Some(verb), Some(second)) = (fields.next(), fields.next()) else {
+        return Err(Declined::Bad);
+    };
+    match (fields.next(), fields.next()) {
+        (None, _) => two_fields(verb, second),
+        (Some(third), None) => three_fields(verb, second, third),
+        _ => Err(Declined::Bad),
     }
-    let verb = first_bytes(line, end);
-    let rest = bytes_after(line, end + 1);
-    let middle = fields::field_end(rest);
-    if middle == rest.len() {
-        return two_fields(verb, rest);
-    }
-    let second = first_bytes(rest, middle);
-    let third = bytes_after(rest, middle + 1);
-    let last = fields::field_end(third);
-    if last == third.len() {
-        return three_fields(verb, second, third);
-    }
-    Said::Bad
 }

@@ -10,8 +10,7 @@ use lib.Dec.{ltb, leb}
 use lib.ListN.{length, drop, get_or}
 use lib.Seq.{drop-cons, drop-length}
 use borrow.Author.Tests.{lt-ltb, le-ltb, ltb-true, le-leb, leb-true}
-use Rattle.book_tags.specs.declared.digits.Number.{Number}
-use Rattle.book_tags.specs.declared.digits.Number.TheVariants as number
+use Rattle.std.specs.Prelude.{Option, Some, None}
 use Rattle.book_tags.specs.Tags.{between, digit_of, number_after, number_of, record_of, record_at_most}
 
 -- The value of a digit by its byte.
@@ -46,7 +45,7 @@ digit_none byte h k = rw (outside 48 57 byte h, outside 97 102 byte k)
 
 -- From a place on: a byte that is no digit decides, a digit goes into the value, at the end stands the value.
 module _ (base value : ℕ) (bytes : List ℕ) (i : ℕ) where
-  pub number_none : {next : ℕ} → next ≡ digit_of (get_or bytes i 0) → i < length bytes → base ≤ next → number_after base value (drop i bytes) ≡ number.Malformed
+  pub number_none : {next : ℕ} → next ≡ digit_of (get_or bytes i 0) → i < length bytes → base ≤ next → number_after base value (drop i bytes) ≡ None
   unfolding number_after
   number_none e h d = rw (drop-cons bytes i 0 h, le-ltb (digit_of (get_or bytes i 0)) base (omega arith))
 
@@ -55,7 +54,7 @@ module _ (base value : ℕ) (bytes : List ℕ) (i : ℕ) where
   unfolding number_after
   number_more e h d = rw (add-one i, drop-cons bytes i 0 h, ← e, lt-ltb _ base d)
 
-  pub number_end : i ≡ length bytes → number_after base value (drop i bytes) ≡ number.Is value
+  pub number_end : i ≡ length bytes → number_after base value (drop i bytes) ≡ Some value
   unfolding number_after
   number_end h = rw (h, drop-length bytes)
 
@@ -78,15 +77,15 @@ digit_grows base value next i h v d =
     omega (arith, pow-suc 16 i)
 
 -- A number of n digits, after i, is below the power n + i.
-pub number_below : (base value : ℕ) (bytes : List ℕ) (i : ℕ) → value < base ^ i → (n : ℕ) → number_after base value bytes ≡ number.Is n → n < base ^ (length bytes + i)
+pub number_below : (base value : ℕ) (bytes : List ℕ) (i : ℕ) → value < base ^ i → (n : ℕ) → number_after base value bytes ≡ Some n → n < base ^ (length bytes + i)
 unfolding number_after
 number_below base value [] i h n e = let same : value ≡ n = cc in rw (← same, zero-add i) h
 number_below base value (byte ∷ bytes) i h n e =
     go (ltb (digit_of byte) base) refl (λ v q. number_below base (value * base + digit_of byte) bytes (suc i) v n q) e
   where
     go : (t : Bool) → ltb (digit_of byte) base ≡ t
-        → (value * base + digit_of byte < base ^ suc i → number_after base (value * base + digit_of byte) bytes ≡ number.Is n → n < base ^ (length bytes + suc i))
-        → cond t (number_after base (value * base + digit_of byte) bytes) number.Malformed ≡ number.Is n → n < base ^ (suc (length bytes) + i)
+        → (value * base + digit_of byte < base ^ suc i → number_after base (value * base + digit_of byte) bytes ≡ Some n → n < base ^ (length bytes + suc i))
+        → cond t (number_after base (value * base + digit_of byte) bytes) None ≡ Some n → n < base ^ (suc (length bytes) + i)
     go true t rest e =
         let power : length bytes + suc i ≡ suc (length bytes) + i = omega arith in
         rw power at (rest (digit_more base value (digit_of byte) i h (ltb-true (digit_of byte) base t)) e)
@@ -97,11 +96,11 @@ pub record_small : (field : List ℕ) → record_at_most 99999 (record_of field)
 unfolding record_of
 record_small field = go (between 1 5 (length field)) refl (number_of 10 field) (number_below 10 0 field 0 (omega arith))
   where
-    go : (t : Bool) → between 1 5 (length field) ≡ t → (r : Number) → ((m : ℕ) → r ≡ number.Is m → m < 10 ^ (length field + 0))
-        → record_at_most 99999 (cond t r number.Malformed)
+    go : (t : Bool) → between 1 5 (length field) ≡ t → (r : Option ℕ) → ((m : ℕ) → r ≡ Some m → m < 10 ^ (length field + 0))
+        → record_at_most 99999 (cond t r None)
     go false e r below = tt
-    go true e number.Malformed below = tt
-    go true e (number.Is m) below =
+    go true e None below = tt
+    go true e (Some m) below =
         let k : length field ≤ 5 = inside 1 5 (length field) e in
         let p : 10 ^ (length field + 0) ≤ 10 ^ 5 = pow-le-pow_right (omega arith) {j = 5} (omega arith) in
         omega (arith, below m refl)

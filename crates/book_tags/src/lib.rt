@@ -2,92 +2,94 @@
 #![tactic(auto)]
 
 pub mod digits;
-pub mod parts;
 
 ghost use Rattle.std.specs.Prelude.{◌≡◌};
 ghost use Rattle.book_tags.specs.Tags.{tag_of, decimal_tag, hexadecimal_tag, record_of};
 
-use digits::{Number, read_number};
-use parts::{bytes_after, first_bytes};
-use tag_code::{TagFields, pack, unpack};
+use digits::read_number;
+use std::error::Error;
+use std::fmt;
+use tag_code::{OutOfRange, TagFields, pack, unpack};
 
-// What a field that should be a tag writes.
-#[derive(Clone, Copy)]
-pub enum Tag {
-    Key(u64),
-    OutOfRange,
+// Why a field that should be a tag writes none.
+#[derive(Clone, Copy, Debug, PartialEq, Eq)]
+pub enum TagError {
     Malformed,
+    OutOfRange,
+}
+
+impl fmt::Display for TagError {
+    fn fmt<W: fmt::Write>(&self, f: &mut fmt::Formatter<W>) -> fmt::Result {
+        match self {
+            TagError::Malformed => write!(f, "no tag"),
+            TagError::OutOfRange => OutOfRange.fmt(f),
+        }
+    }
+}
+
+impl Error for TagError {}
+
+impl From<OutOfRange> for TagError {
+    ghost use Rattle.book_tags.specs.declared.TagError.{TagError};
+
+    ghost from_gives = { λ _ e. e ≡ TagError.OutOfRange };
+
+    fn from(_: OutOfRange) -> Self {
+        Self::OutOfRange
+    }
 }
 
 // A tag of 15 decimal digits: "three of country, twelve of national number; flag 1, other fields 0".
-fn decimal_tag(country: Number, national: Number) -> Tag
+#[tactic(auto, unfolding(crate::specs::Tags::decimal_tag))]
+fn decimal_tag(country: Option<u64>, national: Option<u64>) -> Result<u64, TagError>
     ensures { result ≡ decimal_tag country national }
 {
-    let Number::Is(country) = country else {
-        return Tag::Malformed;
+    let (Some(country), Some(national)) = (country, national) else {
+        return Err(TagError::Malformed);
     };
-    let Number::Is(national) = national else {
-        return Tag::Malformed;
-    };
-    let packed = pack(TagFields {
+    let key = pack(TagFields {
         animal: 1,
-        retag: 0,
-        user: 0,
-        reserved: 0,
-        block: 0,
         country,
         national,
-    });
-    if packed.number == 0 {
-        Tag::Key(packed.code)
-    } else {
-        Tag::OutOfRange
-    }
+        ..TagFields::default()
+    })?;
+    Ok(key)
 }
 
 // A tag of 16 hexadecimal digits.
-fn hexadecimal_tag(code: Number) -> Tag
+#[tactic(auto, unfolding(crate::specs::Tags::hexadecimal_tag))]
+fn hexadecimal_tag(code: Option<u64>) -> Result<u64, TagError>
     ensures { result ≡ hexadecimal_tag code }
 {
-    let Number::Is(code) = code else {
-        return Tag::Malformed;
+    let Some(key) = code else {
+        return Err(TagError::Malformed);
     };
-    let unpacked = unpack(code);
-    if unpacked.number == 0 {
-        Tag::Key(code)
-    } else {
-        Tag::OutOfRange
-    }
+    unpack(key)?;
+    Ok(key)
 }
 
 // The tag that a field writes.
-pub fn read_tag(field: &[u8]) -> Tag
+#[tactic(auto, using(crate::proofs::TagLaws::tag_decimal, crate::proofs::TagLaws::tag_hexadecimal, crate::proofs::TagLaws::tag_none))]
+pub fn read_tag(field: &[u8]) -> Result<u64, TagError>
     ensures { result ≡ tag_of field.now }
 {
     if field.len() == 15 {
-        return decimal_tag(
-            read_number(first_bytes(field, 3), 10),
-            read_number(bytes_after(field, 3), 10),
-        );
+        let (country, national) = field.split_at(3);
+        return decimal_tag(read_number(country, 10), read_number(national, 10));
     }
-    if field.len() != 17 {
-        return Tag::Malformed;
+    match field {
+        [b'h', digits @ ..] if digits.len() == 16 => hexadecimal_tag(read_number(digits, 16)),
+        _ => Err(TagError::Malformed),
     }
-    if field[0] != b'h' {
-        return Tag::Malformed;
-    }
-    hexadecimal_tag(read_number(bytes_after(field, 1), 16))
 }
 
 // The record that a field writes: 1 to 5 decimal digits.
-pub fn read_record(field: &[u8]) -> Number
+#[tactic(auto, using(crate::proofs::TagLaws::record_number, crate::proofs::TagLaws::record_short, crate::proofs::TagLaws::record_long))]
+pub fn read_record(field: &[u8]) -> Option<u64>
     ensures { result ≡ record_of field.now }
 {
-    if field.len() < 1 {
-        return Number::Malformed;
+    match field.len() {
+        1..=5 => read_number(field, 10),
+        _ => None,
     }
-    if field.len() > 5 {
-        return Number::Malformed;
-    }
-    read_number(field, 10)
 }

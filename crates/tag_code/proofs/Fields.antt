@@ -3,8 +3,9 @@ use mathlib.Core.Path.{◌≡◌, refl, sym}
 use mathlib.Core.Logic.{◌↔◌}
 use mathlib.Core.Bool.{Bool, true, false, ◌&&◌, true≢false}
 use Prim.Native.Nat.{◌<◌, ◌≤◌, ◌^◌}
+use native.Mathlib.Omega.{arith}
 use lib.Dec.{ltb, leb}
-use borrow.Author.Tests.{ltb-true, leb-true, lt-ltb, le-leb}
+use borrow.Author.Tests.{ltb-true, leb-true, leb-false, lt-ltb, le-leb}
 use Rattle.tag_code.specs.declared.TagFields.{TagFields}
 use Rattle.tag_code.specs.TagCode.{fields_fit}
 
@@ -65,3 +66,16 @@ unfit f not_fit = go (fields_fit f) refl
     go : (t : Bool) → fields_fit f ≡ t → t ≡ false
     go true e = absurd (not_fit (fit_of f e))
     go false e = refl
+
+-- Where the other fields fit, the national number decides.
+pub last_test : (f : TagFields) → f.animal ≤ 1 → f.retag ≤ 7 → f.user ≤ 31 → f.reserved ≤ 63 → f.block ≤ 1 → f.country ≤ 999
+    → leb f.national 274877906943 ≡ fields_fit f
+last_test f a b c d e g = go (leb f.national 274877906943) refl
+  where
+    go : (t : Bool) → leb f.national 274877906943 ≡ t → t ≡ fields_fit f
+    go true q =
+        let n : f.national ≤ 274877906943 = leb-true _ _ q in
+        sym (of_fit f (record { animal = omega arith; retag = omega arith; user = omega arith; reserved = omega arith; block = omega arith; country = g; national = omega arith }))
+    go false q =
+        let n : 274877906943 < f.national = leb-false _ _ q in
+        sym (unfit f (λ h. omega (arith, h.national)))

@@ -1,6 +1,7 @@
 -- The tag code (01, "Tag code"). Assumes nothing.
-use Rattle.std.specs.Prelude.{Bool, cond, ◌&&◌, ℕ, suc, ◌+◌, ◌*◌, ◌-◌, ◌/◌, ◌%◌, ◌^◌, ltb, leb}
+use Rattle.std.specs.Prelude.{Bool, Result, Ok, Err, cond, ◌&&◌, ℕ, suc, ◌+◌, ◌*◌, ◌-◌, ◌/◌, ◌%◌, ◌^◌, ltb, leb}
 use Rattle.tag_code.specs.declared.TagFields.{TagFields}
+use Rattle.tag_code.specs.declared.OutOfRange.{OutOfRange}
 use Rattle.tag_code.specs.declared.Packed.{Packed}
 use Rattle.tag_code.specs.declared.Unpacked.{Unpacked}
 
@@ -54,3 +55,12 @@ packed f = cond (fields_fit f) (record { number = 0; code = code_of f }) (record
 
 unfoldable pub unpacked : ℕ → Unpacked
 unpacked c = cond (leb (bits_of 17 26 c) 999) (record { number = 0; fields = fields_of c }) (record { number = 11; fields = no_fields })
+
+-- A result as C is given it: the number 0 beside the value, or 11 beside zeros.
+abbrev pub as_packed : Result ℕ OutOfRange → Packed
+as_packed (Ok code) = record { number = 0; code = code }
+as_packed (Err e) = record { number = 11; code = 0 }
+
+abbrev pub as_unpacked : Result TagFields OutOfRange → Unpacked
+as_unpacked (Ok fields) = record { number = 0; fields = fields }
+as_unpacked (Err e) = record { number = 11; fields = no_fields }

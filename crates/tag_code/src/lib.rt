@@ -2,11 +2,14 @@
 #![tactic(auto)]
 
 ghost use Rattle.std.specs.Prelude.{◌≡◌, ◌+◌, ◌*◌, ◌/◌, ◌%◌, ◌^◌, ◌-◌, ◌<◌};
-ghost use Rattle.tag_code.specs.TagCode.{fields_fit, packed, unpacked};
+ghost use Rattle.tag_code.specs.TagCode.{fields_fit, packed, unpacked, as_packed, as_unpacked};
+
+use std::error::Error;
+use std::fmt;
 
 // The fields of a tag, from bit 1 of its code to bit 64.
 #[repr(C)]
-#[derive(Clone, Copy)]
+#[derive(Clone, Copy, Debug, Default, PartialEq, Eq)]
 pub struct TagFields {
     pub animal: u64,
     pub retag: u64,
@@ -17,7 +20,11 @@ pub struct TagFields {
     pub national: u64,
 }
 
-// The answer of `pack`: 0 and the code, or 11 and 0.
+// Why there is no code, or no fields: a country above 999, or a field too large for its bits.
+#[derive(Clone, Copy, Debug, PartialEq, Eq)]
+pub struct OutOfRange;
+
+// The answer of `pack` for C: 0 and the code, or 11 and 0.
 #[repr(C)]
 #[derive(Clone, Copy)]
 pub struct Packed {
@@ -25,7 +32,7 @@ pub struct Packed {
     pub code: u64,
 }
 
-// The answer of `unpack`: 0 and the fields, or 11 and fields 0.
+// The answer of `unpack` for C: 0 and the fields, or 11 and fields 0.
 #[repr(C)]
 #[derive(Clone, Copy)]
 pub struct Unpacked {
@@ -42,28 +49,54 @@ impl TagFields {
     pub fn fit(self) -> bool
         ensures { result ≡ fields_fit self }
     {
-        if self.animal > 1 {
-            return false;
+        self.animal <= 1
+            && self.retag <= 7
+            && self.user <= 31
+            && self.reserved <= 63
+            && self.block <= 1
+            && self.country <= Self::LARGEST_COUNTRY
+            && self.national <= Self::LARGEST_NATIONAL
+    }
+}
+
+impl OutOfRange {
+    // The answer number of a call that is refused for this.
+    pub const NUMBER: u32 = 11;
+}
+
+impl fmt::Display for OutOfRange {
+    fn fmt<W: fmt::Write>(&self, f: &mut fmt::Formatter<W>) -> fmt::Result {
+        write!(f, "country above 999, or a field too large for its bits")
+    }
+}
+
+impl Error for OutOfRange {}
+
+impl From<Result<u64, OutOfRange>> for Packed {
+    ghost from_gives = { λ answer p. p ≡ as_packed answer };
+
+    fn from(answer: Result<u64, OutOfRange>) -> Self {
+        match answer {
+            Ok(code) => Self { number: 0, code },
+            Err(OutOfRange) => Self {
+                number: OutOfRange::NUMBER,
+                code: 0,
+            },
         }
-        if self.retag > 7 {
-            return false;
+    }
+}
+
+impl From<Result<TagFields, OutOfRange>> for Unpacked {
+    ghost from_gives = { λ answer u. u ≡ as_unpacked answer };
+
+    fn from(answer: Result<TagFields, OutOfRange>) -> Self {
+        match answer {
+            Ok(fields) => Self { number: 0, fields },
+            Err(OutOfRange) => Self {
+                number: OutOfRange::NUMBER,
+                fields: TagFields::default(),
+            },
         }
-        if self.user > 31 {
-            return false;
-        }
-        if self.reserved > 63 {
-            return false;
-        }
-        if self.block > 1 {
-            return false;
-        }
-        if self.country > TagFields::LARGEST_COUNTRY {
-            return false;
-        }
-        if self.national > TagFields::LARGEST_NATIONAL {
-            return false;
-        }
-        true
     }
 }
 
@@ -84,57 +117,37 @@ fn field_of(code: u64, after: u64, width: u64) -> u64
 }
 
 // The code of the fields.
-pub fn pack(fields: TagFields) -> Packed
-    ensures { result ≡ packed fields }
+pub fn pack(fields: TagFields) -> Result<u64, OutOfRange>
+    ensures { as_packed result ≡ packed fields }
 {
     if !fields.fit() {
-        return Packed {
-            number: 11,
-            code: 0,
-        };
+        return Err(OutOfRange);
     }
     let to_retag = with_field(fields.animal, fields.retag, 3);
     let to_user = with_field(to_retag, fields.user, 5);
     let to_reserved = with_field(to_user, fields.reserved, 6);
     let to_block = with_field(to_reserved, fields.block, 1);
     let to_country = with_field(to_block, fields.country, 10);
-    Packed {
-        number: 0,
-        code: with_field(to_country, fields.national, 38),
-    }
+    Ok(with_field(to_country, fields.national, 38))
 }
 
 // The fields of the code.
-pub fn unpack(code: u64) -> Unpacked
-    ensures { result ≡ unpacked code }
+pub fn unpack(code: u64) -> Result<TagFields, OutOfRange>
+    ensures { as_unpacked result ≡ unpacked code }
 {
     let country = field_of(code, 38, 10);
     if country > TagFields::LARGEST_COUNTRY {
-        return Unpacked {
-            number: 11,
-            fields: TagFields {
-                animal: 0,
-                retag: 0,
-                user: 0,
-                reserved: 0,
-                block: 0,
-                country: 0,
-                national: 0,
-            },
-        };
+        return Err(OutOfRange);
     }
-    Unpacked {
-        number: 0,
-        fields: TagFields {
-            animal: field_of(code, 63, 1),
-            retag: field_of(code, 60, 3),
-            user: field_of(code, 55, 5),
-            reserved: field_of(code, 49, 6),
-            block: field_of(code, 48, 1),
-            country,
-            national: field_of(code, 0, 38),
-        },
-    }
+    Ok(TagFields {
+        animal: field_of(code, 63, 1),
+        retag: field_of(code, 60, 3),
+        user: field_of(code, 55, 5),
+        reserved: field_of(code, 49, 6),
+        block: field_of(code, 48, 1),
+        country,
+        national: field_of(code, 0, 38),
+    })
 }
 
 // `pack` of the fields one by one, as C passes them.
@@ -149,7 +162,7 @@ pub fn tag_code_pack(
 ) -> Packed
     ensures { result ≡ packed (record { animal = animal; retag = retag; user = user; reserved = reserved; block = block; country = country; national = national }) }
 {
-    pack(TagFields {
+    Packed::from(pack(TagFields {
         animal,
         retag,
         user,
@@ -157,12 +170,12 @@ pub fn tag_code_pack(
         block,
         country,
         national,
-    })
+    }))
 }
 
 // `unpack` by the name that C calls.
 pub fn tag_code_unpack(code: u64) -> Unpacked
     ensures { result ≡ unpacked code }
 {
-    unpack(code)
+    Unpacked::from(unpack(code))
 }

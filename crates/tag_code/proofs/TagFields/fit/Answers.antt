@@ -1,32 +1,18 @@
--- Each test is one field's. Assumes nothing.
-use mathlib.Core.Path.{sym}
+-- The tests are the definition's. Assumes nothing.
+use mathlib.Core.Path.{◌≡◌}
+use mathlib.Core.Bool.{false}
 use native.Mathlib.Omega.{arith}
-use Rattle.tag_code.proofs.Fields.{fit_law, unfit}
+use borrow.Author.Rules.{rules}
+use borrow.Author.Tests.{leb-false}
+use Rattle.tag_code.specs.TagCode.{fields_fit}
+use Rattle.tag_code.proofs.Fields.{last_test, unfit}
 use Rattle.tag_code.proofs.TagFields.fit.Goals as goal
 
-pub returns-then-self-gt1 : goal.returns-then-self-gt1
-returns-then-self-gt1 c = sym (unfit c.args.self (λ h. omega arith))
+pub returns-then-self-le-LARGEST_COUNTRY : goal.returns-then-self-le-LARGEST_COUNTRY
+returns-then-self-le-LARGEST_COUNTRY c =
+    last_test c.args.self (omega arith) (omega arith) (omega arith) (omega arith) (omega arith) (omega arith)
 
-pub returns-then-self-gt7 : goal.returns-then-self-gt7
-returns-then-self-gt7 c = sym (unfit _ (λ h. omega arith))
-
-pub returns-then-self-gt31 : goal.returns-then-self-gt31
-returns-then-self-gt31 c = sym (unfit _ (λ h. omega arith))
-
-pub returns-then-self-gt63 : goal.returns-then-self-gt63
-returns-then-self-gt63 c = sym (unfit _ (λ h. omega arith))
-
-pub returns-then-self-gt1-2 : goal.returns-then-self-gt1-2
-returns-then-self-gt1-2 c = sym (unfit _ (λ h. omega arith))
-
-pub returns-then-self-gt-LARGEST_COUNTRY : goal.returns-then-self-gt-LARGEST_COUNTRY
-returns-then-self-gt-LARGEST_COUNTRY c = sym (unfit _ (λ h. omega arith))
-
-pub returns-then-self-gt-LARGEST_NATIONAL : goal.returns-then-self-gt-LARGEST_NATIONAL
-returns-then-self-gt-LARGEST_NATIONAL c = sym (unfit _ (λ h. omega arith))
-
-pub returns : goal.returns
-returns c =
-    sym
-    ((fit_law _).1
-    (record { animal = omega arith; retag = omega arith; user = omega arith; reserved = omega arith; block = omega arith; country = omega arith; national = omega arith }))
+pub returns-else-self-le-LARGEST_COUNTRY : goal.returns-else-self-le-LARGEST_COUNTRY
+returns-else-self-le-LARGEST_COUNTRY c =
+    let refused : fields_fit c.args.self ≡ false = unfit _ (λ h. grind (arith, leb-false, h)) in
+    search rules
