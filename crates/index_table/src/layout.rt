@@ -37,6 +37,13 @@ pub struct Root {
     pub level: u8,
 }
 
+// What an entry on level 0 points at. An enum of its own, and no Option: 01 names this form.
+#[derive(Clone, Copy, Debug, PartialEq, Eq)]
+pub enum Answer {
+    Live(RecordNo),
+    Dummy,
+}
+
 pub fn wide(x: u8) -> usize
     ensures { (result ≡ x) × (result ≤ 255) }
 {
@@ -118,15 +125,18 @@ pub fn child(index: &[u8], e: u8, page: PageNo, i: usize) -> PageNo
     PageNo::from_pointer(pointer(index, e, page, i))
 }
 
-// The record that a pointer on level 0 means; none for a dummy.
-pub fn answer_of(pointer: u32) -> Option<RecordNo>
+// What a pointer on level 0 means.
+pub fn answer_of(pointer: u32) -> Answer
     ensures { result ≡ answer_of pointer }
 {
-    (pointer != 65535).then_some(RecordNo(pointer))
+    if pointer == 65535 {
+        return Answer::Dummy;
+    }
+    Answer::Live(RecordNo(pointer))
 }
 
-// The record that entry i of a page of level 0 points at; none for a dummy.
-pub fn record(index: &[u8], e: u8, page: PageNo, i: usize) -> Option<RecordNo>
+// The record that entry i of a page of level 0 points at.
+pub fn record(index: &[u8], e: u8, page: PageNo, i: usize) -> Answer
     requires { Within (layout_of e) index.now page.0 × (i < e) }
     ensures { result ≡ answer_of (ref_at (layout_of e) (page_bytes (layout_of e) index.now page.0) i).1 }
 {

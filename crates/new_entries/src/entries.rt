@@ -5,6 +5,7 @@ ghost use Rattle.leaf_list.specs.Insertion.{dummies};
 ghost use Rattle.leaf_list.specs.Search.{positions};
 ghost use Rattle.new_entries.specs.Entries.{count_in, DummiesPre, FoundPre, NewPre, NewPost, NewEntries};
 
+use index_table::layout::{Answer, answer_of};
 use page_tree::Entry;
 use table_search::Leaf;
 
@@ -77,7 +78,7 @@ pub fn new_entries(keys: &[u64], w: u64, key: u64, record: u32, leaf: Leaf) -> N
     requires { FoundPre keys.now w key «record» leaf }
     ensures { NewEntries keys.now w key «record» leaf result }
 {
-    let Some(other) = index_table::layout::answer_of(leaf.pointer) else {
+    let Answer::Live(other) = answer_of(leaf.pointer) else {
         return News::Alone(Entry {
             depth: leaf.depth as u8,
             pointer: record,

@@ -5,6 +5,8 @@ ghost use Rattle.index_table.specs.Header.{width_of};
 ghost use Rattle.table_change.specs.Changes.{too_wide, on_row};
 ghost use Rattle.table_change.specs.News.{key_is};
 
+use index_table::layout::Answer;
+
 // Row 2, 3 or 4, the first that applies; 0 if none does.
 pub fn early_row(index: &[u8], used: &[u8], key: u64, record: u32) -> u32
     requires { (16 ≤ length index.now) × (width_of index.now ≤ 64) }
@@ -28,7 +30,7 @@ pub fn is_key(keys: &[u64], pointer: u32, key: u64) -> bool
     requires { pointer ≢ 65535 → pointer < length keys.now }
     ensures { result ≡ key_is keys.now pointer key }
 {
-    let Some(record) = index_table::layout::answer_of(pointer) else {
+    let Answer::Live(record) = index_table::layout::answer_of(pointer) else {
         return false;
     };
     let at = record.0 as usize;

@@ -8,7 +8,7 @@ ghost use Rattle.table_find.specs.Answers.{found, find_answer};
 ghost use Rattle.table_find.specs.Places.{numbered_leaf, FoundLeaf};
 
 use index_table::header::Index;
-use index_table::layout::RecordNo;
+use index_table::layout::{Answer, RecordNo, answer_of};
 use index_table::refusal::Refusal;
 use table_search::Leaf;
 
@@ -41,7 +41,7 @@ pub fn find_held(index: &[u8], keys: &[u64], used: &[u8], key: u64) -> Result<Re
 {
     // With two callers found_number stays a call that hands over registers alone.
     let pointer = table_search::number_pointer(found_number(index, keys, used, key));
-    let Some(record) = index_table::layout::answer_of(pointer) else {
+    let Answer::Live(record) = answer_of(pointer) else {
         return Err(Refusal::KeyNotHeld);
     };
     let at = record.0 as usize;

@@ -28,7 +28,7 @@ fn visit(keys: &[u64], stored: u32, a: u64, b: u64, out: &mut [u32], written: us
     requires { VisitPre keys.now stored }
     ensures { (out.new, result) ≡ visited keys.now a b (out.old, going written) (record_of 65535 stored) }
 {
-    let Some(record) = answer_of(stored) else {
+    let index_table::layout::Answer::Live(record) = answer_of(stored) else {
         return Continue(written);
     };
     let at = record.0 as usize;

@@ -10,20 +10,20 @@ returns-in_default c =
 
 pub bounds-keys-at : goal.bounds-keys-at
 bounds-keys-at c =
-    visited_inside _ 0 0 c.args.out.now 0 _ c.requires _ (live_pointer _ _ _ c.answer_of.ensures c.in-Some.is)
+    visited_inside _ 0 0 c.args.out.now 0 _ c.requires _ (live_pointer _ _ _ c.answer_of.ensures c.in-Live.is)
 
 pub returns-then-key-a : goal.returns-then-key-a
 returns-then-key-a c =
-    visited_below _ _ _ _ _ _ c.requires _ (live_pointer _ _ _ c.answer_of.ensures c.in-Some.is) (omega arith)
+    visited_below _ _ _ _ _ _ c.requires _ (live_pointer _ _ _ c.answer_of.ensures c.in-Live.is) (omega arith)
 
 pub returns-then-key-b : goal.returns-then-key-b
 returns-then-key-b c =
-    visited_ended _ _ _ _ _ _ c.requires _ (live_pointer _ _ _ c.answer_of.ensures c.in-Some.is) (omega arith) (omega arith)
+    visited_ended _ _ _ _ _ _ c.requires _ (live_pointer _ _ _ c.answer_of.ensures c.in-Live.is) (omega arith) (omega arith)
 
 pub returns-then-written-out : goal.returns-then-written-out
 returns-then-written-out c =
-    visited_full _ _ _ _ _ _ c.requires _ (live_pointer _ _ _ c.answer_of.ensures c.in-Some.is) (omega arith) (omega arith) (omega arith)
+    visited_full _ _ _ _ _ _ c.requires _ (live_pointer _ _ _ c.answer_of.ensures c.in-Live.is) (omega arith) (omega arith) (omega arith)
 
 pub returns : goal.returns
 returns c =
-    visited_written _ _ _ _ _ _ c.requires _ (live_pointer _ _ _ c.answer_of.ensures c.in-Some.is) (omega arith) (omega arith) (omega arith)
+    visited_written _ _ _ _ _ _ c.requires _ (live_pointer _ _ _ c.answer_of.ensures c.in-Live.is) (omega arith) (omega arith) (omega arith)

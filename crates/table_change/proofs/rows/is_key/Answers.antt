@@ -25,11 +25,11 @@ returns-in_default c =
 -- src/rows.rt:41:5
 pub bounds-keys-at : goal.bounds-keys-at
 bounds-keys-at c =
-    let live = live_pointer _ _ _ c.answer_of.ensures c.in-Some.is in
+    let live = live_pointer _ _ _ c.answer_of.ensures c.in-Live.is in
     subst (λ (n : ℕ). n < length c.args.keys.now) live.1 (c.requires live.0)
 
 -- src/rows.rt:33:1
 pub returns : goal.returns
 returns c =
-    let live = live_pointer _ c.args.pointer _ c.answer_of.ensures c.in-Some.is in
+    let live = live_pointer _ c.args.pointer _ c.answer_of.ensures c.in-Live.is in
     live-key c.args.keys.now c.args.pointer _ c.args.key live.0 live.1

@@ -20,16 +20,16 @@ returns-in_default c =
 
 pub bounds-keys-at : goal.bounds-keys-at
 bounds-keys-at c =
-    let live = live-number c.number_pointer-pointer.ensures (live_pointer _ _ _ c.answer_of.ensures c.in-Some.is) in
+    let live = live-number c.number_pointer-pointer.ensures (live_pointer _ _ _ c.answer_of.ensures c.in-Live.is) in
     subst (λ (n : ℕ). n < length c.args.keys.now) live.1 (live_inside c.requires.0 _ c.requires.1 _ c.found_number.ensures live.0)
 
 pub returns-then-keys-at : goal.returns-then-keys-at
 returns-then-keys-at c =
-    let live = live-number c.number_pointer-pointer.ensures (live_pointer _ _ _ c.answer_of.ensures c.in-Some.is) in
+    let live = live-number c.number_pointer-pointer.ensures (live_pointer _ _ _ c.answer_of.ensures c.in-Live.is) in
     other_absent c.requires.0 _ c.requires.1 _ c.found_number.ensures live.0 (subst (λ (n : ℕ). get_or c.args.keys.now n 0 ≡ c.args.key → ⊥) (sym live.1) (λ q. omega arith))
 
 pub returns : goal.returns
 returns c =
-    let live = live-number c.number_pointer-pointer.ensures (live_pointer _ _ _ c.answer_of.ensures c.in-Some.is) in
+    let live = live-number c.number_pointer-pointer.ensures (live_pointer _ _ _ c.answer_of.ensures c.in-Live.is) in
     ap with_record (sym live.1)
     ∙ live_found c.requires.0 _ c.requires.1 _ c.found_number.ensures live.0 (subst (λ (n : ℕ). get_or c.args.keys.now n 0 ≡ c.args.key) (sym live.1) (omega arith))
