@@ -1,9 +1,11 @@
 // Pages as rows: the row that is changed and cut, and what deletion asks of the entry before.
 #![tactic(auto)]
 
-ghost use Rattle.std.specs.Prelude.{◌≡◌, [], ◌∷◌, ◌++◌, ◌+◌, ◌-◌, ◌≤◌, ◌<◌, max, get_or, set};
+ghost use Rattle.std.specs.Prelude.{◌≡◌, [], ◌∷◌, ◌++◌, ◌+◌, ◌-◌, ◌≤◌, ◌<◌, get_or, set};
 ghost use Rattle.page_tree.specs.Rows.{LastBelow};
 ghost use Rattle.page_tree.specs.Row.{depth_of, row_of, part_of, Holds, SplitPost, CutPre, CutPost, CutsPost};
+
+use arrayvec::ArrayVec;
 
 // What deletion asks of the entry before, on its way back to the left: nothing; to take a depth;
 // to go where it is a dummy deeper than a depth.
@@ -21,7 +23,8 @@ pub struct Entry {
     pub pointer: u32,
 }
 
-// A row of entries: entry i, below count, has the depth depths[i] and the pointer pointers[i].
+// A row of entries: entry i, below count, has the depth depths[i] and the pointer pointers[i]. 01 names this form: "A struct by value with arrays of 319
+// depths and 319 pointers and a count, passed through insertion and cutting".
 #[derive(Clone, Copy)]
 pub struct Row {
     pub depths: [u8; 319],
@@ -29,12 +32,8 @@ pub struct Row {
     pub count: usize,
 }
 
-// Where a row is cut: past the last entry of each part, in order; the first count places are in use.
-#[derive(Clone, Copy)]
-pub struct Cuts {
-    pub ends: [usize; 65],
-    pub count: usize,
-}
+// Where a row is cut: past the last entry of each part, in order.
+pub type Cuts = ArrayVec<usize, 65>;
 
 impl Row {
     // No entry.
@@ -94,76 +93,47 @@ impl Row {
         ensures { Holds result (self.count + (to - from)) (row_of self ++ part_of other from to) }
     {
         let mut r = self;
-        let mut k = r.count;
-        let mut i = from;
-        while i < to {
-            let d = other.depths[i];
-            let p = other.pointers[i];
-            r.depths[k] = d;
-            r.pointers[k] = p;
-            k += 1;
-            i += 1;
+        for i in from..to {
+            let k = r.count;
+            r.depths[k] = other.depths[i];
+            r.pointers[k] = other.pointers[i];
+            r.count = k + 1;
         }
-        r.count = k;
         r
     }
 
     // The ends of the parts in which the row, whose last depth is below all others, stands in pages of at most e entries.
     pub fn cuts(self, e: u8) -> Cuts
         requires { (2 ≤ e) × (1 ≤ self.count) × (self.count ≤ e + 64) × LastBelow depth_of (row_of self) }
-        ensures { CutsPost e self result }
+        ensures { CutsPost e self result.items }
     {
-        let n = self.count;
-        cut_part(
-            self,
-            e,
-            0,
-            n,
-            Cuts {
-                ends: [0usize; 65],
-                count: 0,
-            },
-        )
+        let mut cuts = Cuts::new();
+        cut_part(self, e, 0, self.count, &mut cuts);
+        cuts
     }
 }
 
-// A byte as a number of entries.
-fn wide(x: u8) -> usize
-    ensures { (result ≡ x) × (result ≤ 255) }
-{
-    x as usize
-}
-
 // Where a row is cut, counted from its first entry, and how many entries of the part the search tried.
-#[derive(Clone, Copy)]
+#[derive(Clone, Copy, Debug, PartialEq, Eq)]
 pub struct Cut {
     pub at: usize,
     pub tried: usize,
 }
 
-// Gives the depth from which on one comparison passes an entry: such a one is no shallower than the least so far, and deeper than the depth that
-// stops the search.
-fn passed_from(least: usize, stop: usize) -> usize
-    requires { stop ≤ 65535 }
-    ensures { result ≡ max least (stop + 1) }
-{
-    if least <= stop { stop + 1 } else { least }
-}
-
 // Finds where the entries from one place up to another are cut, and how many the search tried: it stops past the first whose depth is one above the
-// last one's; where none is met, the cut is past the first shallowest, the last left out of the choice.
+// last one's; where none is met, the cut is past the first shallowest, the last left out of the choice. One comparison passes an entry: from the limit
+// on, a depth is no shallower than the least so far, and deeper than the one that stops the search.
 pub fn split_at(row: Row, from: usize, to: usize) -> Cut
     requires { (from + 2 ≤ to) × (to ≤ 319) }
     ensures { SplitPost row.depths from to result }
 {
     let end = to - 1;
-    let stop = wide(row.depths[end]) + 1;
+    let stop = usize::from(row.depths[end]) + 1;
     let mut at = from + 1;
-    let mut least = wide(row.depths[from]);
-    let mut limit = passed_from(least, stop);
-    let mut i = from;
-    while i < end {
-        let d = wide(row.depths[i]);
+    let mut least = usize::from(row.depths[from]);
+    let mut limit = least.max(stop + 1);
+    for i in from..end {
+        let d = usize::from(row.depths[i]);
         let next = i + 1;
         if d < limit {
             if d == stop {
@@ -175,10 +145,9 @@ pub fn split_at(row: Row, from: usize, to: usize) -> Cut
             if d < least {
                 at = next;
                 least = d;
-                limit = passed_from(d, stop);
+                limit = d.max(stop + 1);
             }
         }
-        i = next;
     }
     Cut {
         at,
@@ -186,19 +155,16 @@ pub fn split_at(row: Row, from: usize, to: usize) -> Cut
     }
 }
 
-// The ends of the parts of the entries from one place up to another, behind the ends before.
-fn cut_part(row: Row, e: u8, from: usize, to: usize, before: Cuts) -> Cuts
-    requires { CutPre e row.depths from to before }
-    ensures { CutPost e row.depths from to before result }
+// Puts the ends of the parts of the entries from one place up to another behind the ends before.
+fn cut_part(row: Row, e: u8, from: usize, to: usize, cuts: &mut Cuts)
+    requires { CutPre e row.depths from to cuts.old.items }
+    ensures { CutPost e row.depths from to cuts.old.items cuts.new.items }
 {
-    if to - from <= wide(e) {
-        let mut c = before;
-        let n = c.count;
-        c.ends[n] = to;
-        c.count = n + 1;
-        return c;
+    if to - from <= usize::from(e) {
+        cuts.push(to);
+        return;
     }
     let m = split_at(row, from, to).at;
-    let left = cut_part(row, e, from, m, before);
-    cut_part(row, e, m, to, left)
+    cut_part(row, e, from, m, cuts);
+    cut_part(row, e, m, to, cuts);
 }
