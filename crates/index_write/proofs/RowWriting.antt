@@ -1,10 +1,10 @@
 -- A part of a row is written entry by entry, and the page around it (01, "Pages"). Assumes nothing.
 use mathlib.Core.Path.{◌≡◌, refl, sym, ◌∙◌}
 use mathlib.Core.List.{List, [], ◌∷◌, ◌++◌, append-nil, zip}
-use Prim.Native.Nat.{ℕ, ◌+◌, ◌*◌, ◌-◌, ◌≤◌, ◌<◌, ◌/◌, ◌%◌}
+use Prim.Native.Nat.{ℕ, ◌+◌, ◌*◌, ◌-◌, ◌≤◌, ◌<◌}
 use native.Mathlib.Omega.{arith}
 use native.Mathlib.Numerals.{add-one}
-use lib.ListN.{length, get_or, take, set, replicate, length-set, length-append}
+use lib.ListN.{length, get_or, take, set, replicate, length-append}
 use lib.Seq.{get_or-take, get_or-drop, slice, slice_empty, length-slice}
 use Rattle.leaf_list.proofs.Lists.{all_at}
 use Rattle.page_tree.specs.Rows.{All}
@@ -13,7 +13,6 @@ use Rattle.byte_moves.specs.Over.{over}
 use Rattle.byte_moves.proofs.OverLaws.{over_none, over_append}
 use Rattle.index_table.specs.Layout.{Ref, ref_bytes, row_bytes, page_of, row_page, Fitting}
 use Rattle.index_table.proofs.PageRows.{length_row_bytes, row_bytes_append}
-use Rattle.index_write.proofs.Writing.{ref_over}
 
 -- What holds of a part holds of the element at each of its places.
 all_part : {A : Type 0} (P : A → Type 0) (l : List A) (from i to : ℕ) (d : A) → from ≤ i → i < to → to ≤ length l → All P (slice from to l) → P (get_or l i d)
@@ -49,19 +48,19 @@ pointer_fits_lem ds ps full from i to h g k f =
     rw (place_at ds ps full i (omega arith)) at x
 
 -- One entry more.
-pub written_more : {b₀ : List ℕ} {at : ℕ} {from i next : ℕ} {b : List ℕ} (ds ps : List ℕ) → Full ds ps → i < 319 → get_or ps i 0 < 65536 → Written b₀ at (zip ds ps) from i next b
-    → Written b₀ at (zip ds ps) from (i + 1) (next + 3) (set (set (set b next (get_or ds i 0)) (next + 1) (get_or ps i 0 / 256)) (next + 2) (get_or ps i 0 % 256))
+pub written_more : {b₀ : List ℕ} {at : ℕ} {from i next : ℕ} {b b₁ : List ℕ} (ds ps : List ℕ) → Full ds ps → i < 319 → Written b₀ at (zip ds ps) from i next b
+    → length b₁ ≡ length b → b₁ ≡ over b next (ref_bytes 2 (get_or ds i 0, get_or ps i 0)) → Written b₀ at (zip ds ps) from (i + 1) (next + 3) b₁
 unfolding row_bytes
-written_more {b₀} {at} {from} {i} {next} {b} ds ps full l f h =
+written_more {b₀} {at} {from} {i} {next} {b} ds ps full l h same wrote =
     let z : List Ref = zip ds ps in
     let x : Ref = (get_or ds i 0, get_or ps i 0) in
     let k : i < length z = omega (arith, length_zip ds ps full) in
     let n : next ≡ at + length (row_bytes 2 (slice from i z)) = omega (arith, h.place, h.passed, length_row_bytes 2 (slice from i z), length-slice from i z (omega arith)) in
     record {
-      long = simp length-set h.long;
+      long = same ∙ h.long;
       passed = omega (arith, h.passed);
       place = omega (arith, h.place, h.passed);
-      bytes = ref_over b next x.0 x.1 f ∙ rw (h.bytes, n, over_append b₀ at (row_bytes 2 (slice from i z)) (ref_bytes 2 x))
+      bytes = wrote ∙ rw (h.bytes, n, over_append b₀ at (row_bytes 2 (slice from i z)) (ref_bytes 2 x))
           (sym (rw (slice_more from i z (0, 0) h.passed k, place_at ds ps full i l, row_bytes_append 2 (slice from i z) (x ∷ []), append-nil (ref_bytes 2 x))));
     }
 

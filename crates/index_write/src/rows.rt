@@ -6,7 +6,7 @@ ghost use Rattle.index_table.specs.Layout.{Within, layout_of};
 ghost use Rattle.index_table.specs.Pages.{pages_at};
 ghost use Rattle.index_write.specs.Storing.{Loadable, Spliceable, spliced_at};
 
-use index_table::layout::{PageNo, count, depth, pointer, wide};
+use index_table::layout::{PageNo, count, depth, pointer};
 use page_tree::Row;
 
 // The entries of a page from one place up to another, behind those of a row.
@@ -15,17 +15,12 @@ pub fn append_page(row: Row, index: &[u8], e: u8, page: PageNo, from: usize, to:
     ensures { Holds result (row.count + (to - from)) (row_of row ++ slice from to (pages_at (layout_of e) index.now page.0)) }
 {
     let mut r = row;
-    let mut k = r.count;
-    let mut i = from;
-    while i < to {
-        let d = depth(index, e, page, i);
-        let p = pointer(index, e, page, i);
-        r.depths[k] = d;
-        r.pointers[k] = p;
-        k += 1;
-        i += 1;
+    for i in from..to {
+        let k = r.count;
+        r.depths[k] = depth(index, e, page, i);
+        r.pointers[k] = pointer(index, e, page, i);
+        r.count = k + 1;
     }
-    r.count = k;
     r
 }
 
@@ -34,7 +29,7 @@ pub fn load_page(index: &[u8], e: u8, page: PageNo) -> Row
     requires { Within (layout_of e) index.now page.0 × (length (pages_at (layout_of e) index.now page.0) ≤ e) }
     ensures { Holds result (length (pages_at (layout_of e) index.now page.0)) (pages_at (layout_of e) index.now page.0) }
 {
-    let n = wide(count(index, e, page));
+    let n = usize::from(count(index, e, page));
     append_page(Row::new(), index, e, page, 0, n)
 }
 
@@ -43,9 +38,8 @@ pub fn splice_page(index: &[u8], e: u8, page: PageNo, at: usize, parts: Row) -> 
     requires { Spliceable e index.now page.0 at parts }
     ensures { Holds result (at + parts.count + (length (pages_at (layout_of e) index.now page.0) - suc at)) (spliced_at at (row_of parts) (pages_at (layout_of e) index.now page.0)) }
 {
-    let n = wide(count(index, e, page));
-    let c = parts.count;
+    let n = usize::from(count(index, e, page));
     let first = append_page(Row::new(), index, e, page, 0, at);
-    let more = first.append(parts, 0, c);
+    let more = first.append(parts, 0, parts.count);
     append_page(more, index, e, page, at + 1, n)
 }

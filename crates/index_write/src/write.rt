@@ -76,15 +76,10 @@ fn write_row(index: &mut [u8], at: usize, row: Row, from: usize, to: usize)
     requires { (at + 3 * (to - from) ≤ length index.old) × (from ≤ to) × (to ≤ 319) × Fitting 2 (part_of row from to) }
     ensures { index.new ≡ over index.old at (row_bytes 2 (part_of row from to)) }
 {
-    let mut i = from;
     let mut next = at;
-    while i < to {
-        let p = row.pointers[i];
-        index[next] = row.depths[i];
-        index[next + 1] = (p / 256) as u8;
-        index[next + 2] = (p % 256) as u8;
+    for i in from..to {
+        write_entry(index, next, row.depths[i], row.pointers[i]);
         next += 3;
-        i += 1;
     }
 }
 
@@ -124,12 +119,10 @@ pub fn find_free(index: &[u8], e: u8, pages: u16) -> PageNo
     requires { (page_start (layout_of e) pages ≤ length index.now) × (used_pages pages (pages_at (layout_of e) index.now) < pages) }
     ensures { (result.0 < pages) × (length (pages_at (layout_of e) index.now result.0) ≡ 0) }
 {
-    let mut i: u16 = 0;
-    while i < pages {
+    for i in 0..pages {
         if count(index, e, PageNo(i)) == 0 {
             return PageNo(i);
         }
-        i += 1;
     }
-    PageNo(i)
+    unreachable!()
 }

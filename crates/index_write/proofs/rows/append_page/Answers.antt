@@ -20,13 +20,13 @@ loop-i-init c =
     let pre = c.requires in
     (pre.order, pre.within, pre.inside, pre.few, pre.room, appended_none _ _ _ _ _ (search rules, search rules))
 
-pub depth-d-requires : goal.depth-d-requires
-depth-d-requires c =
+pub depth-requires : goal.depth-requires
+depth-requires c =
     let inv = c.loop-i.invariant in
     (inv.1, omega (arith, inv.2, inv.3))
 
-pub pointer-p-requires : goal.pointer-p-requires
-pointer-p-requires c =
+pub pointer-requires : goal.pointer-requires
+pointer-requires c =
     let inv = c.loop-i.invariant in
     (inv.1, omega (arith, inv.2, inv.3))
 
@@ -38,7 +38,7 @@ loop-i-preserved c =
       inv.2,
       inv.3,
       inv.4,
-      appended_next (omega (arith, inv.2)) (omega (arith, inv.4, inv.5.count, inv.5.passed)) (read_at _ _ _ _ (omega (arith, inv.2)) c.depth-d.ensures c.pointer-p.ensures.0) inv.5,
+      appended_next (omega (arith, inv.2)) (omega (arith, inv.4, inv.5.count, inv.5.passed)) (read_at _ _ _ _ (omega (arith, inv.2)) c.depth.ensures c.pointer.ensures.0) inv.5,
     )
 
 pub returns : goal.returns

@@ -1,6 +1,5 @@
 -- The entries of a page appended to a row. Assumes nothing.
-use Prim.Native.Nat.{◌+◌, ◌-◌, ◌≤◌}
-use lib.ListN.{length, take}
+use Rattle.std.proofs.Common.{◌+◌, ◌-◌, ◌≤◌, length, take}
 use Rattle.page_tree.specs.Row.{places}
 use Rattle.page_tree.proofs.RowLaws.{Appended}
 use Rattle.index_table.specs.Layout.{Within, layout_of}
@@ -13,8 +12,5 @@ invariant-loop-i l =
     × Within (layout_of l.e) l.index l.page.0
     × (l.to ≤ length (pages_at (layout_of l.e) l.index l.page.0))
     × (length (pages_at (layout_of l.e) l.index l.page.0) ≤ l.e)
-    × (l.initial.k + (l.to - l.from) ≤ 319)
-    × Appended l.from l.i l.initial.k l.k (take l.initial.k (places l.initial.r)) (pages_at (layout_of l.e) l.index l.page.0) l.r.depths l.r.pointers
-
-abbrev pub decreases-loop-i : goal.decreases-loop-i
-decreases-loop-i l = l.to - l.i
+    × (l.initial.r.count + (l.to - l.from) ≤ 319)
+    × Appended l.from l.i l.initial.r.count l.r.count (take l.initial.r.count (places l.initial.r)) (pages_at (layout_of l.e) l.index l.page.0) l.r.depths l.r.pointers

@@ -6,18 +6,18 @@ use Rattle.index_write.proofs.rows.splice_page.Goals as goal
 pub append_page-requires : goal.append_page-requires
 append_page-requires c =
     let pre = c.requires in
-    let whole = entries_counted _ _ _ c.wide-n.ensures.0 c.count.ensures in
+    let whole = entries_counted _ _ _ c.from-n.ensures c.count.ensures in
     let before = spliced_count _ _ _ _ _ _ _ c.append_page-first.result pre.inside whole c.new.ensures c.append_page-first.ensures c.append-more.ensures in
     record {
       within = pre.within;
       few = pre.few;
       order = omega (arith, pre.inside, whole);
       inside = omega (arith, whole);
-      room = omega (arith, before, whole, pre.inside, pre.few, pre.room, c.wide-n.ensures.1);
+      room = omega (arith, before, whole, pre.inside, pre.few, pre.room);
     }
 
 pub returns : goal.returns
 returns c =
     let pre = c.requires in
-    let whole = entries_counted _ _ _ c.wide-n.ensures.0 c.count.ensures in
+    let whole = entries_counted _ _ _ c.from-n.ensures c.count.ensures in
     spliced_page _ _ _ _ _ _ _ _ pre.inside whole c.new.ensures c.append_page-first.ensures c.append-more.ensures c.append_page.ensures
