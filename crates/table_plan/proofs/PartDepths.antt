@@ -4,13 +4,12 @@ use mathlib.Core.List.{List, [], ◌∷◌, ◌++◌, map, map-append, zip}
 use Prim.Native.Nat.{ℕ, ◌+◌, ◌-◌, ◌≤◌, ◌<◌}
 use native.Mathlib.Omega.{arith}
 use native.Mathlib.Numerals.{add-one}
-use lib.ListN.{get_or, set, take}
+use lib.ListN.{length, get_or, set, take}
 use lib.Seq.{take-suc, take-length}
 use Rattle.page_tree.specs.Row.{depth_of, row_of, CutsPost}
 use Rattle.page_tree.specs.Rows.{last_depth}
 use Rattle.page_tree.specs.Cutting.{parts}
 use Rattle.page_tree.specs.declared.Row.{Row}
-use Rattle.page_tree.specs.declared.Cuts.{Cuts}
 use Rattle.page_tree.proofs.PartEnds.{start_of}
 use Rattle.page_tree.proofs.RowLaws.{Full, full_set, stored_behind, length_row}
 use Rattle.page_tree.proofs.RowCuts.{Part, cuts_part, part_last}
@@ -21,25 +20,25 @@ pub record Gathered (e : ℕ) (row : Row) (k : ℕ) (ds ps : List ℕ) : Type 0 
   pub full : Full ds ps
   pub depths : map depth_of (take k (zip ds ps)) ≡ map (last_depth depth_of 0) (take k (parts depth_of e (row_of row)))
 
-module _ {e : ℕ} {row : Row} {cuts : Cuts} (full : Full row.depths row.pointers) (two : 2 ≤ e) (some : 1 ≤ row.count)
+module _ {e : ℕ} {row : Row} {cuts : List ℕ} (full : Full row.depths row.pointers) (two : 2 ≤ e) (some : 1 ≤ row.count)
     (short : row.count ≤ 319) (post : CutsPost e row cuts) where
   -- Part k stands in the row up to its end.
-  pub part_at : (k : ℕ) → k < cuts.count → Part e row (parts depth_of e (row_of row)) k (start_of (parts depth_of e (row_of row)) k) (get_or cuts.ends k 0)
+  pub part_at : (k : ℕ) → k < length cuts → Part e row (parts depth_of e (row_of row)) k (start_of (parts depth_of e (row_of row)) k) (get_or cuts k 0)
   part_at k l = cuts_part (omega arith) (omega (arith, length_row row full short)) post k l (start_of (parts depth_of e (row_of row)) k) refl
 
   -- So its end has an entry before it.
-  pub end_inside : (k : ℕ) → k < cuts.count → (1 ≤ get_or cuts.ends k 0) × (get_or cuts.ends k 0 ≤ 319)
+  pub end_inside : (k : ℕ) → k < length cuts → (1 ≤ get_or cuts k 0) × (get_or cuts k 0 ≤ 319)
   end_inside k l = (omega (arith, (part_at k l).some), omega (arith, (part_at k l).within))
 
   -- One depth more.
-  pub gathered_more : (k : ℕ) → k < cuts.count → (ds ps : List ℕ) → Gathered e row k ds ps
-      → Gathered e row (k + 1) (set ds k (get_or row.depths (get_or cuts.ends k 0 - 1) 0)) (set ps k 0)
+  pub gathered_more : (k : ℕ) → k < length cuts → (ds ps : List ℕ) → Gathered e row k ds ps
+      → Gathered e row (k + 1) (set ds k (get_or row.depths (get_or cuts k 0 - 1) 0)) (set ps k 0)
   gathered_more k l ds ps g =
-      let d = get_or row.depths (get_or cuts.ends k 0 - 1) 0 in
+      let d = get_or row.depths (get_or cuts k 0 - 1) 0 in
       let xss = parts depth_of e (row_of row) in
       let p = part_at k l in
       let last : d ≡ last_depth depth_of 0 (get_or xss k []) =
-      sym (part_last row full (start_of xss k) (get_or cuts.ends k 0) 0 p.some (end_inside k l).1) ∙ ap (last_depth depth_of 0) p.entries in
+      sym (part_last row full (start_of xss k) (get_or cuts k 0) 0 p.some (end_inside k l).1) ∙ ap (last_depth depth_of 0) p.entries in
       record {
         full = full_set ds ps k d 0 g.full;
         depths =
@@ -51,14 +50,13 @@ module _ {e : ℕ} {row : Row} {cuts : Cuts} (full : Full row.depths row.pointer
       }
 
   -- All of them.
-  pub gathered_all : (k : ℕ) (ds ps : List ℕ) → k ≤ cuts.count → cuts.count ≤ k → Gathered e row k ds ps
-      → LastDepths e row (record { depths = ds; pointers = ps; count = cuts.count })
-  gathered_all k ds ps a b g =
+  pub gathered_all : (r : Row) → r.count ≡ length cuts → Gathered e row r.count r.depths r.pointers → LastDepths e row r
+  gathered_all r is g =
       let xss = parts depth_of e (row_of row) in
-      let is : k ≡ cuts.count = omega arith in
+      let count : r.count ≡ length xss = is ∙ post.count in
       record {
-        count = post.count;
-        depths = rw is at g.depths ∙ ap (map (last_depth depth_of 0)) (ap (λ (n : ℕ). take n xss) post.count ∙ take-length xss);
-        some = post.some;
-        few = post.few;
+        count = count;
+        depths = g.depths ∙ ap (map (last_depth depth_of 0)) (ap (λ (n : ℕ). take n xss) count ∙ take-length xss);
+        some = omega (arith, post.some);
+        few = omega (arith, post.few);
       }

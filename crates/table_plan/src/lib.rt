@@ -10,7 +10,7 @@ ghost use Rattle.index_write.specs.Storing.{spliced_at};
 ghost use Rattle.table_plan.specs.Plans.{LastDepths, PartsPre, PartsPost, PlanPre, PlanPost};
 ghost use Rattle.table_plan.specs.Outcomes.{RootsPre, RootsPost, OutcomePre, OutcomePost};
 
-use index_table::layout::{PageNo, child, count, depth, wide};
+use index_table::layout::{PageNo, child, count, depth};
 use index_write::rows::splice_page;
 use page_tree::Row;
 use table_search::{next_position, seek};
@@ -23,7 +23,7 @@ pub struct Plan {
 }
 
 // What an insertion will leave: the level of the root, and how many pages more are in use.
-#[derive(Clone, Copy)]
+#[derive(Clone, Copy, Debug, PartialEq, Eq)]
 pub struct Outcome {
     pub level: usize,
     pub fresh: usize,
@@ -35,17 +35,13 @@ fn last_depths(row: Row, e: u8) -> Row
     ensures { LastDepths e row result }
 {
     let cuts = row.cuts(e);
-    let n = cuts.count;
     let mut r = Row::new();
-    let mut k: usize = 0;
-    while k < n {
-        let to = cuts.ends[k];
-        let d = row.depths[to - 1];
-        r.depths[k] = d;
+    for &to in cuts.as_slice() {
+        let k = r.count;
+        r.depths[k] = row.depths[to - 1];
         r.pointers[k] = 0;
-        k += 1;
+        r.count = k + 1;
     }
-    r.count = n;
     r
 }
 
@@ -55,8 +51,8 @@ fn plan_parts(index: &[u8], e: u8, page: PageNo, at: usize, parts: Row, below: u
     requires { PartsPre index.now e page.0 at parts below }
     ensures { PartsPost e (spliced_at at (row_of parts) (pages_at (layout_of e) index.now page.0)) below result }
 {
-    let n = wide(count(index, e, page));
-    if n + parts.count <= wide(e) + 1 {
+    let n = usize::from(count(index, e, page));
+    if n + parts.count <= usize::from(e) + 1 {
         let d = depth(index, e, page, n - 1);
         return Plan {
             row: Row::new().push(d, 0),
@@ -64,10 +60,9 @@ fn plan_parts(index: &[u8], e: u8, page: PageNo, at: usize, parts: Row, below: u
         };
     }
     let row = last_depths(splice_page(index, e, page, at, parts), e);
-    let m = row.count;
     Plan {
-        row: row,
-        fresh: below + (m - 1),
+        row,
+        fresh: below + (row.count - 1),
     }
 }
 
@@ -105,8 +100,7 @@ pub fn plan_page(
         s.trail,
         news,
     );
-    let row = part.row;
-    plan_parts(index, e, page, at, row, part.fresh)
+    plan_parts(index, e, page, at, part.row, part.fresh)
 }
 
 // The new roots above the parts of a root: one part is the root, and more stand in the parts of a row one level up.
@@ -115,17 +109,13 @@ pub fn plan_roots(e: u8, level: usize, parts: Row) -> Outcome
     ensures { RootsPost e level parts result }
 {
     if parts.count <= 1 {
-        return Outcome {
-            level: level,
-            fresh: 0,
-        };
+        return Outcome { level, fresh: 0 };
     }
     let up = last_depths(parts, e);
-    let m = up.count;
     let above = plan_roots(e, level + 1, up);
     Outcome {
         level: above.level,
-        fresh: m + above.fresh,
+        fresh: up.count + above.fresh,
     }
 }
 
@@ -145,8 +135,7 @@ pub fn plan_insertion(
 {
     let position = next_position(w, key, 0);
     let part = plan_page(index, e, pages, level, root, w, key, position, 0, news);
-    let row = part.row;
-    let above = plan_roots(e, wide(level), row);
+    let above = plan_roots(e, usize::from(level), part.row);
     Outcome {
         level: above.level,
         fresh: part.fresh + above.fresh,
@@ -158,13 +147,11 @@ pub fn pages_in_use(index: &[u8], e: u8, pages: u16) -> usize
     requires { page_start (layout_of e) pages ≤ length index.now }
     ensures { result ≡ used_pages pages (pages_at (layout_of e) index.now) }
 {
-    let mut used: usize = 0;
-    let mut i: u16 = 0;
-    while i < pages {
+    let mut used = 0;
+    for i in 0..pages {
         if count(index, e, PageNo(i)) != 0 {
             used += 1;
         }
-        i += 1;
     }
     used
 }

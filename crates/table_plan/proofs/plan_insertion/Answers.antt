@@ -8,13 +8,13 @@ plan_page-part-requires c = root_plan c.requires _ c.next_position-position.ensu
 
 pub plan_roots-above-requires : goal.plan_roots-above-requires
 plan_roots-above-requires c =
-    roots_plan c.requires _ c.next_position-position.ensures _ c.plan_page-part.ensures _ c.wide.ensures.0
+    roots_plan c.requires _ c.next_position-position.ensures _ c.plan_page-part.ensures _ c.from.ensures
 
 pub overflow_add-result : goal.overflow_add-result
 overflow_add-result c =
-    let small = pages_small c.requires _ c.next_position-position.ensures _ c.plan_page-part.ensures _ c.wide.ensures.0 _ c.plan_roots-above.ensures in
+    let small = pages_small c.requires _ c.next_position-position.ensures _ c.plan_page-part.ensures _ c.from.ensures _ c.plan_roots-above.ensures in
     omega (arith, small)
 
 pub returns : goal.returns
 returns c =
-    outcome_end c.requires _ c.next_position-position.ensures _ c.plan_page-part.ensures _ c.wide.ensures.0 _ c.plan_roots-above.ensures
+    outcome_end c.requires _ c.next_position-position.ensures _ c.plan_page-part.ensures _ c.from.ensures _ c.plan_roots-above.ensures

@@ -6,12 +6,12 @@ use Rattle.table_plan.proofs.plan_parts.Goals as goal
 
 pub overflow_sub-n : goal.overflow_sub-n
 overflow_sub-n c =
-    entry_some (search rules, search rules) c.requires c.wide-n.ensures.0 c.count.ensures
+    entry_some (search rules, search rules) c.requires c.from-n.ensures c.count.ensures
 
 pub returns-then-n-parts : goal.returns-then-n-parts
 returns-then-n-parts c =
-    one_part (search rules, search rules) c.requires c.wide-n.ensures.0 c.count.ensures
-    (omega (arith, c.if-n-parts.true, c.wide.ensures.0)) _ _ c.new.ensures _ c.depth-d.ensures c.push.ensures
+    one_part (search rules, search rules) c.requires c.from-n.ensures c.count.ensures
+    (omega (arith, c.if-n-parts.true, c.from.ensures)) _ _ c.new.ensures _ c.depth-d.ensures c.push.ensures
 
 pub last_depths-row-requires : goal.last_depths-row-requires
 last_depths-row-requires c =
