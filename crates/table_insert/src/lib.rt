@@ -10,7 +10,7 @@ ghost use Rattle.table_insert.specs.Inserting.{page_ref, Replaced, AlonePre, Ins
 ghost use Rattle.table_insert.specs.NewRoots.{GrowPre, GrowPost};
 ghost use Rattle.table_insert.specs.Putting.{PutPre, PutPost};
 
-use index_table::layout::{PageNo, Root, child, count, depth, wide};
+use index_table::layout::{PageNo, Root, child, count, depth};
 use index_write::rows::splice_page;
 use index_write::write::{find_free, store_page};
 use page_tree::Row;
@@ -34,37 +34,26 @@ fn place_part(
     page
 }
 
-// A page's number as a pointer.
-fn pointer_to(page: PageNo) -> u32
-    ensures { (result ≡ page.0) × (result < 65536) }
-{
-    page.0 as u32
-}
-
 // The parts of a row stored in pages of a level: the first in the page `own`, the others in free pages. The entries that point at them.
 pub fn place_parts(index: &mut [u8], e: u8, pages: u16, level: u8, own: PageNo, row: Row) -> Row
     requires { PlacePre e pages index.old own.0 row }
     ensures { PlacePost e pages level index.old own.0 row index.new result }
 {
     let cuts = row.cuts(e);
-    let mut from = cuts.ends[0];
+    let ends = cuts.as_slice();
+    let mut from = ends[0];
     store_page(index, e, own, level, row, 0, from);
     let mut r = Row::new();
     r.depths[0] = row.depths[from - 1];
-    r.pointers[0] = pointer_to(own);
-    let n = cuts.count;
-    let mut k: usize = 1;
-    while k < n {
-        let to = cuts.ends[k];
+    r.pointers[0] = u32::from(own);
+    for k in 1..ends.len() {
+        let to = ends[k];
         let page = place_part(index, e, pages, level, row, from, to);
-        let d = row.depths[to - 1];
-        let p = pointer_to(page);
-        r.depths[k] = d;
-        r.pointers[k] = p;
+        r.depths[k] = row.depths[to - 1];
+        r.pointers[k] = u32::from(page);
         from = to;
-        k += 1;
     }
-    r.count = k;
+    r.count = ends.len();
     r
 }
 
@@ -73,9 +62,9 @@ fn page_alone(index: &[u8], e: u8, page: PageNo) -> Row
     requires { AlonePre e index.now page.0 }
     ensures { Holds result 1 (page_ref e index.now page.0 ∷ []) }
 {
-    let n = wide(count(index, e, page));
+    let n = usize::from(count(index, e, page));
     let d = depth(index, e, page, n - 1);
-    Row::new().push(d, pointer_to(page))
+    Row::new().push(d, u32::from(page))
 }
 
 // New entries in the place of the entry that figure 6 finds below a page of a level, and what then stands in the place of the page.
@@ -127,7 +116,7 @@ pub fn grow(index: &mut [u8], e: u8, pages: u16, level: u8, parts: Row) -> Root
 {
     if parts.count <= 1 {
         return Root {
-            page: PageNo(parts.pointers[0] as u16),
+            page: PageNo::from_pointer(parts.pointers[0]),
             level,
         };
     }

@@ -1,18 +1,19 @@
 -- One part is the root; else the row stands one level up, with fewer parts. Assumes nothing.
-use native.Mathlib.Omega.{arith}
+use Rattle.std.proofs.Common.{◌≡◌, ℕ, ap, get_or, arith}
 use native.Mathlib.Numerals.{add-one}
 use Rattle.page_tree.proofs.RowLaws.{length_row}
 use Rattle.table_insert.proofs.RootSteps.{root_fits, root_alone, root_free, root_level_lem, root_place, up_fewer, up_again, up_done}
 use borrow.Author.Rules.{rules}
 use Rattle.table_insert.proofs.+grow.Goals as goal
 
-pub overflow_cast-result : goal.overflow_cast-result
-overflow_cast-result t c =
+pub from_pointer-requires : goal.from_pointer-requires
+from_pointer-requires t c =
     omega (arith, root_fits c.requires (search rules, search rules) c.if-parts-le1.true)
 
 pub returns-then-parts-le1 : goal.returns-then-parts-le1
 returns-then-parts-le1 t c =
-    root_alone c.requires (search rules, search rules) c.if-parts-le1.true
+    let page : c.from_pointer.result ≡ record { 0 = get_or c.args.parts.pointers 0 0 } = ap (λ (p : ℕ). record { 0 = p }) c.from_pointer.ensures in
+    rw page (root_alone c.requires (search rules, search rules) c.if-parts-le1.true)
 
 pub find_free-own-requires : goal.find_free-own-requires
 find_free-own-requires t c =

@@ -1,5 +1,4 @@
 -- The first part is stored in the own page; then the loop stores part after part. Assumes nothing.
-use Prim.Native.Nat.{◌-◌}
 use lib.ListN.{take}
 use Rattle.page_tree.specs.Row.{places}
 use Rattle.page_tree.proofs.RowLaws.{Full}
@@ -8,6 +7,3 @@ use Rattle.table_insert.proofs.place_parts.Given as goal
 
 abbrev pub invariant-loop-k : goal.invariant-loop-k
 invariant-loop-k l = Full l.row.depths l.row.pointers × Storing l.e l.pages l.level l.row (take 1 (places l.initial.r)) l.initial.index l.index l.from l.r.depths l.r.pointers l.k
-
-abbrev pub decreases-loop-k : goal.decreases-loop-k
-decreases-loop-k l = l.n - l.k
