@@ -37,6 +37,7 @@ pub fn agree(w: u64, a: u64, b: u64, l: u64) -> bool
 }
 
 // Whether a key has more than w bits.
+#[tactic(auto, using(crate::proofs::KeyLaws::wide_by_shift))]
 pub fn too_wide(w: u64, key: u64) -> bool
     requires { w ≤ 64 }
     ensures { result ≡ leb (2 ^ w) key }
