@@ -27,18 +27,12 @@ impl Index {
     pub const MAX_LEVEL: u8 = 15;
 }
 
-fn word(high: u8, low: u8) -> u16
-    ensures { result ≡ high * 256 + low }
-{
-    (high as u16) * 256 + (low as u16)
-}
-
 // The width of the keys.
 pub fn width(index: &[u8]) -> u64
     requires { 16 ≤ length index.now }
     ensures { (result ≡ width_of index.now) × (result ≤ 255) }
 {
-    index[0] as u64
+    u64::from(index[0])
 }
 
 // The header's numbers.
@@ -46,14 +40,11 @@ pub fn read(index: &[u8]) -> Index
     requires { 16 ≤ length index.now }
     ensures { IndexOf index.now result }
 {
-    let pages = word(index[2], index[3]);
-    let root = word(index[4], index[5]);
-    let held = word(index[6], index[7]);
     Index {
         width: index[0],
         entries: index[1],
-        pages,
-        root: PageNo(root),
-        held,
+        pages: u16::from_be_bytes([index[2], index[3]]),
+        root: PageNo(u16::from_be_bytes([index[4], index[5]])),
+        held: u16::from_be_bytes([index[6], index[7]]),
     }
 }

@@ -67,7 +67,7 @@ pub fn deep(x: u8) -> u64
 pub fn table_bytes(e: u8, pages: u16) -> usize
     ensures { result ≡ page_start (layout_of e) pages }
 {
-    16 + wide16(pages) * (2 + 3 * wide(e))
+    16 + usize::from(pages) * (2 + 3 * usize::from(e))
 }
 
 // Where a page starts.
@@ -102,19 +102,13 @@ pub fn depth(index: &[u8], e: u8, page: PageNo, i: usize) -> u8
     index[at + (2 + 3 * i)]
 }
 
-fn number(high: u8, low: u8) -> u32
-    ensures { (result ≡ high * 256 + low) × (result ≤ 65535) }
-{
-    (high as u32) * 256 + (low as u32)
-}
-
 // The pointer of entry i, as it is stored.
 pub fn pointer(index: &[u8], e: u8, page: PageNo, i: usize) -> u32
     requires { Within (layout_of e) index.now page.0 × (i < e) }
     ensures { (result ≡ (ref_at (layout_of e) (page_bytes (layout_of e) index.now page.0) i).1) × (result ≤ 65535) }
 {
     let at = page_start(e, page) + (2 + 3 * i);
-    number(index[at + 1], index[at + 2])
+    u32::from(u16::from_be_bytes([index[at + 1], index[at + 2]]))
 }
 
 // The page that entry i of a page above level 0 points at.

@@ -1,23 +1,17 @@
 -- What the stores of the writers are, one step at a time. Assumes nothing.
-use mathlib.Core.Path.{◌≡◌, sym, ap, ◌∙◌}
-use mathlib.Core.List.{List, [], ◌∷◌}
+use mathlib.Core.Path.{◌≡◌, ◌∙◌}
+use mathlib.Core.List.{List}
 use Prim.Native.Nat.{ℕ, ◌+◌, ◌≤◌, ◌<◌, ◌/◌, ◌%◌}
 use native.Mathlib.Omega.{arith}
 use native.Mathlib.Numerals.{add-one, add-two}
-use lib.ListN.{set, replicate, length-replicate, replicate-append-replicate}
+use lib.ListN.{set, replicate}
 use Rattle.byte_moves.specs.Over.{over}
-use Rattle.byte_moves.proofs.OverLaws.{over_one, over_append}
 use Rattle.index_table.specs.Bytes.{bytes_of}
 use Rattle.index_table.specs.Layout.{Layout, page_bytes, count_of, ref_bytes}
 use Rattle.index_table.specs.Header.{header_bytes}
 use Rattle.index_table.specs.Pages.{pages_at, sum_to, used_pages}
 use Rattle.index_table.proofs.NumberLaws.{bytes_two}
 use Rattle.index_table.proofs.PageRows.{length_refs}
-
--- The two bytes of a number.
-pub word_over : (b : List ℕ) (at n : ℕ) → n < 65536 → set (set b at (n / 256)) (at + 1) (n % 256) ≡ over b at (bytes_of 2 n)
-unfolding over
-word_over b at n h = rw (bytes_two n h, add-one at)
 
 -- The three bytes of an entry.
 pub ref_over : (b : List ℕ) (at d p : ℕ) → p < 65536 → set (set (set b at d) (at + 1) (p / 256)) (at + 2) (p % 256) ≡ over b at (ref_bytes 2 (d, p))
@@ -29,16 +23,6 @@ pub header_over : (b b₁ b₂ b₃ b₄ : List ℕ) (w e p root held : ℕ) →
     → b₄ ≡ over b₃ 8 (replicate 8 0) → b₄ ≡ over b 0 (header_bytes w e p root held)
 unfolding over bytes_of header_bytes
 header_over b b₁ b₂ b₃ b₄ w e p root held x y z t = t ∙ rw (z, y, x)
-
--- One zero more.
-pub zeros_more : (b₀ b : List ℕ) (at i : ℕ) → b ≡ over b₀ at (replicate i 0) → set b (at + i) 0 ≡ over b₀ at (replicate (i + 1) 0)
-zeros_more b₀ b at i h =
-    over_one b (at + i) 0 ∙ rw h (ap (λ (k : ℕ). over (over b₀ at (replicate i 0)) (at + k) (0 ∷ [])) (sym (length-replicate {A = ℕ} i 0)))
-    ∙ over_append b₀ at (replicate i 0) (0 ∷ []) ∙ ap (over b₀ at) (replicate-append-replicate {A = ℕ} i 1 0)
-
--- All zeros.
-pub zeros_end : (b₀ b : List ℕ) (at i n : ℕ) → b ≡ over b₀ at (replicate i 0) → i ≤ n → n ≤ i → b ≡ over b₀ at (replicate n 0)
-zeros_end b₀ b at i n h x y = let e : n ≡ i = omega arith in rw e h
 
 -- The pages before page i are all in use; so is page i.
 pub all_used_more : (L : Layout) (b : List ℕ) (i : ℕ) → i ≤ used_pages i (pages_at L b) → (count_of (page_bytes L b i) ≡ 0 → ⊥) → i + 1 ≤ used_pages (i + 1) (pages_at L b)

@@ -16,8 +16,7 @@ fn write_word(index: &mut [u8], at: usize, n: u16)
     requires { at + 2 ≤ length index.old }
     ensures { index.new ≡ over index.old at (bytes_of 2 n) }
 {
-    index[at] = (n / 256) as u8;
-    index[at + 1] = (n % 256) as u8;
+    index[at..at + 2].copy_from_slice(&n.to_be_bytes());
 }
 
 // The header's root page.
@@ -54,9 +53,8 @@ pub fn write_entry(index: &mut [u8], at: usize, d: u8, p: u32)
     requires { (at + 3 ≤ length index.old) × (p < 65536) }
     ensures { index.new ≡ over index.old at (ref_bytes 2 (d, p)) }
 {
-    index[at] = d;
-    index[at + 1] = (p / 256) as u8;
-    index[at + 2] = (p % 256) as u8;
+    let [high, low] = (p as u16).to_be_bytes();
+    index[at..at + 3].copy_from_slice(&[d, high, low]);
 }
 
 // n zeros.
@@ -64,11 +62,7 @@ pub fn clear(index: &mut [u8], at: usize, n: usize)
     requires { at + n ≤ length index.old }
     ensures { index.new ≡ over index.old at (replicate n 0) }
 {
-    let mut i = 0;
-    while i < n {
-        index[at + i] = 0;
-        i += 1;
-    }
+    index[at..at + n].fill(0);
 }
 
 // The entries of a row from one place up to another, one behind the other.
@@ -110,8 +104,7 @@ pub fn free_page(index: &mut [u8], e: u8, page: PageNo)
     ensures { index.new ≡ store (layout_of e) index.old page.0 (replicate (page_size (layout_of e)) 0) }
 {
     let at = page_start(e, page);
-    let n = 2 + 3 * wide(e);
-    clear(index, at, n);
+    clear(index, at, 2 + 3 * usize::from(e));
 }
 
 // A page with no entries, where not all are in use.

@@ -25,7 +25,7 @@ pub fn first_difference(w: u64, a: u64, b: u64) -> u64
     requires { (w ≤ 64) × (a < 2 ^ w) × (b < 2 ^ w) }
     ensures { (result ≡ first_difference 0 (bits w a) (bits w b)) × (0 < result) × (a ≢ b → result ≤ w) }
 {
-    u64::leading_zeros(a ^ b) as u64 + w - 63
+    u64::from((a ^ b).leading_zeros()) + w - 63
 }
 
 // Whether two keys of w bits agree in their first l bits.
@@ -33,21 +33,16 @@ pub fn agree(w: u64, a: u64, b: u64, l: u64) -> bool
     requires { (w ≤ 64) × (l ≤ w) × (a < 2 ^ w) × (b < 2 ^ w) }
     ensures { result ≡ eqb (first_bits w l a) (first_bits w l b) }
 {
-    if l == 0 {
-        return true;
-    }
-    (a >> (w - l)) == (b >> (w - l))
+    l == 0 || (a >> (w - l)) == (b >> (w - l))
 }
 
 // Whether a key has more than w bits.
+#[tactic(auto, using(crate::proofs::KeyLaws::wide_by_shift))]
 pub fn too_wide(w: u64, key: u64) -> bool
     requires { w ≤ 64 }
     ensures { result ≡ leb (2 ^ w) key }
 {
-    if w == 64 {
-        return false;
-    }
-    (key >> w) != 0
+    w < 64 && (key >> w) != 0
 }
 
 // The discriminator after disc and an entry of depth d: bit d is set, and the later bits are clear.
@@ -63,5 +58,5 @@ pub fn next_discriminator(w: u64, disc: u64, d: u64) -> u64
 pub fn leaf_depth(before: u64, d: u64) -> u64
     ensures { (result ≡ leaf_depth before d) × (result ≡ max before d) }
 {
-    if before < d { d } else { before }
+    before.max(d)
 }

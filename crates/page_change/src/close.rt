@@ -6,7 +6,7 @@ ghost use Rattle.index_table.specs.Pages.{pages_at};
 ghost use Rattle.page_change.specs.Changing.{WholePage, with_row, without};
 
 use byte_moves::move_down;
-use index_table::layout::{PageNo, count, page_start, wide};
+use index_table::layout::{PageNo, count, page_start};
 use index_write::write::{clear, write_entry};
 
 // Another entry in the place of entry i of a page.
@@ -38,9 +38,9 @@ pub fn close(index: &mut [u8], e: u8, page: PageNo, from: usize, to: usize)
     ensures { index.new ≡ with_row e index.old page.0 (without from to (pages_at (layout_of e) index.old page.0)) }
 {
     let at = page_start(e, page);
-    let n = wide(count(index, e, page));
+    let n = usize::from(count(index, e, page));
     let gone = to - from;
-    let free = wide(e) - n;
+    let free = usize::from(e) - n;
     close_up(index, at + (2 + 3 * from), 3 * gone, 3 * (n - to), 3 * free);
     index[at + 1] = (n - gone) as u8;
 }

@@ -1,15 +1,12 @@
--- The loop's invariant: i zeros stand from `at` on. Assumes nothing.
-use lib.ListN.{length-set}
-use Rattle.index_write.proofs.Writing.{zeros_more, zeros_end}
+-- Each byte of the part is 0. Assumes nothing.
+use mathlib.Core.Path.{◌∙◌, ap}
 use native.Mathlib.Omega.{arith}
-use Rattle.byte_moves.proofs.OverLaws.{over_none}
+use Prim.Native.Nat.{ℕ}
+use lib.ListN.{replicate, length-take, length-drop}
+use Rattle.byte_moves.proofs.OverLaws.{over_part}
 use Rattle.index_write.proofs.write.clear.Goals as goal
 
-pub loop-i-init : goal.loop-i-init
-loop-i-init c = (omega arith, over_none _ _, omega arith)
-
-pub loop-i-preserved : goal.loop-i-preserved
-loop-i-preserved c = (omega arith, zeros_more _ _ _ _ c.loop-i.invariant.1, simp length-set (omega arith))
-
 pub returns : goal.returns
-returns c = zeros_end _ _ _ _ _ c.loop-i.invariant.1 c.loop-i.invariant.0 c.loop-i-test.false
+returns c =
+    over_part _ _ _ (omega (arith, c.requires)) c.fill.ensures.len
+    (c.fill.ensures.after (λ y e. e) ∙ ap (λ (k : ℕ). replicate {A = ℕ} k 0) (length-take _ _ ∙ omega (arith, length-drop c.args.at c.args.index.now, c.requires)))

@@ -1,17 +1,11 @@
--- The three stores are the three bytes of the entry. Assumes nothing.
+-- The three bytes of the entry. Assumes nothing.
 use native.Mathlib.Omega.{arith}
-use lib.ListN.{length-set}
-use Rattle.index_write.proofs.Writing.{ref_over}
+use Rattle.byte_moves.proofs.OverLaws.{over_part}
+use Rattle.index_table.specs.Bytes.{bytes_of}
+use Rattle.index_table.specs.Layout.{ref_bytes}
 use Rattle.index_write.proofs.write.write_entry.Goals as goal
 
-pub bounds-index-at-2 : goal.bounds-index-at-2
-bounds-index-at-2 c = simp length-set (omega arith)
-
-pub bounds-index-at-3 : goal.bounds-index-at-3
-bounds-index-at-3 c = simp length-set (omega arith)
-
-pub shape_of-index : goal.shape_of-index
-shape_of-index c = simp length-set
-
 pub returns : goal.returns
-returns c = ref_over _ _ _ _ (omega arith)
+unfolding bytes_of ref_bytes
+returns c =
+    over_part _ _ _ (omega (arith, c.requires)) c.copy_from_slice.ensures.len (rw c.to_be_bytes.ensures at c.copy_from_slice.ensures.after)

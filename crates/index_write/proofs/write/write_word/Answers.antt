@@ -1,14 +1,10 @@
--- The two stores are the two bytes of the number. Assumes nothing.
+-- The two bytes of the number. Assumes nothing.
+use mathlib.Core.Path.{◌∙◌}
 use native.Mathlib.Omega.{arith}
-use lib.ListN.{length-set}
-use Rattle.index_write.proofs.Writing.{word_over}
+use Rattle.byte_moves.proofs.OverLaws.{over_part}
+use Rattle.index_table.specs.Bytes.{bytes_of}
 use Rattle.index_write.proofs.write.write_word.Goals as goal
 
-pub bounds-index-at-2 : goal.bounds-index-at-2
-bounds-index-at-2 c = simp length-set (omega arith)
-
-pub shape_of-index : goal.shape_of-index
-shape_of-index c = simp length-set
-
 pub returns : goal.returns
-returns c = word_over _ _ _ (omega arith)
+unfolding bytes_of
+returns c = over_part _ _ _ (omega (arith, c.requires)) c.copy_from_slice.ensures.len (c.copy_from_slice.ensures.after ∙ c.to_be_bytes.ensures)
