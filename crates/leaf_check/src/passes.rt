@@ -77,7 +77,7 @@ fn key_fits(key: u64, disc: u64, low: u64, below: u64) -> bool
 }
 
 // One entry behind what is carried, with the bits `below` behind its depth, in a page with the bits `most` behind its last depth; none where it
-// does not fit.
+// does not fit. The pointer is a number here, and no Option of a record: one comparison with the register's length tells a record from a dummy.
 pub fn pass_entry(keys: &[u64], most: u64, s: Pass, below: u64, p: u32) -> Option<Pass>
     requires { s.dummies < 255 }
     ensures { Passed keys.now most s below p result }
@@ -109,7 +109,7 @@ pub fn pass_entry(keys: &[u64], most: u64, s: Pass, below: u64, p: u32) -> Optio
     })
 }
 
-// The refusal of a page; it says nothing of what is carried, and keeps no more of the pass than one number.
+// The refusal of a page; it says nothing of what is carried, and keeps no more of the pass than one number, so that the loop has nothing to clear.
 pub fn refused(pass: Pass) -> Checked
     ensures { result.faults ≢ 0 }
 {
