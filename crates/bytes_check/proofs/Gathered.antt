@@ -1,9 +1,7 @@
 -- What is gathered by or over a pass, and what it says of each place. Assumes nothing.
-use Rattle.std.proofs.Common.{◌≡◌, ℕ, zero, suc, ◌+◌, ◌-◌, ◌%◌, ◌^◌, ◌<◌, ◌≤◌, Bool, true, false, cond, eqb, ◌⊎◌, ◌↔◌, List, [], ◌∷◌, length, get_or, take, sym, refl, ap, ◌∙◌, subst, inl, inr, mod-eq_of_lt, arith, pow_pos, below_more}
+use Rattle.std.proofs.Common.{◌≡◌, ℕ, zero, suc, ◌+◌, ◌-◌, ◌%◌, ◌^◌, ◌<◌, ◌≤◌, Bool, true, false, cond, eqb, ◌↔◌, List, [], ◌∷◌, length, get_or, take, sym, refl, ap, ◌∙◌, subst, mod-eq_of_lt, arith, below_more}
 use lib.Bits.{bit_or, bit_and, or_add_and, and_le_r, and_le_l, or_lt, and_zero_r, and_mask}
 use Rattle.leaf_list.specs.Register.{count_in_use}
-use Rattle.index_table.specs.Soundness.{SoundRecord}
-use Rattle.bytes_check.specs.Scans.{SmallBytes, SoundRecords}
 use Rattle.bytes_check.specs.Gatherings.{UsedBetween, four_keys, Gathered}
 use Rattle.bytes_check.specs.declared.register.Gathering.{Gathering}
 
@@ -35,16 +33,6 @@ sound_bits (suc zero) key x k l e b =
     let z : bit_and key x ≡ 0 = ap (bit_and key) y ∙ and_zero_r key in
     ((λ q i. absurd (omega arith)), (λ q. z))
 sound_bits (suc (suc byte)) key x k l e b = absurd (omega arith)
-
--- Nothing is gathered of no records.
-pub gathered_none : (keys used : List ℕ) → Gathered keys used 0 (record { keys = 0; odd = 0; held = 0 })
-gathered_none keys used =
-    record {
-      widths = λ m. ((λ h r l. absurd (omega arith)), (λ f. pow_pos m));
-      records = ((λ h r l. absurd (omega arith)), (λ f. refl));
-      count = refl;
-      small = omega arith;
-    }
 
 -- One record more in use counts one more, where its byte is 0 or 1.
 count_more : (used : List ℕ) (i : ℕ) → i < length used → get_or used i 0 ≤ 1 → count_in_use (take (i + 1) used) ≡ count_in_use (take i used) + get_or used i 0
@@ -120,29 +108,3 @@ gathered_eight keys used {g} i k m l p q u h =
     let four = gathered_four keys used i (g.held + 4) (omega arith) refl (λ r a b. u r a (omega arith)) h in
     let e : i + 4 + 4 ≡ i + 8 = omega arith in
     rw (q, p, ← e) (gathered_four keys used (i + 4) (g.held + 8) (omega arith) (omega arith) (λ r a b. u r (omega arith) (omega arith)) four)
-
--- At the end: every record is sound exactly if nothing odd was gathered and no key is too wide.
-zero_or_one : (u : ℕ) → u ≤ 1 → (u ≡ 0) ⊎ (u ≡ 1)
-zero_or_one zero h = inl refl
-zero_or_one (suc zero) h = inr refl
-zero_or_one (suc (suc u)) h = absurd (omega arith)
-
-pub gathered_sound : (w : ℕ) (keys used : List ℕ) {g : Gathering} → SmallBytes (length used) used → Gathered keys used (length used) g
-    → ((g.odd ≡ 0) × (g.keys < 2 ^ w)) ↔ SoundRecords w keys used
-gathered_sound w keys used small h = (
-  (λ q r l.
-      record { byte = zero_or_one (get_or used r 0) (small r l); free = h.records.0 q.0 r l; narrow = λ e. (h.widths w).0 q.1 r l }),
-  (λ f. (h.records.1 (λ r l. (f r l).free), (h.widths w).1 (λ r l. narrow (f r l).byte (f r l)))),
-)
-  where
-    narrow : {k u : ℕ} → (u ≡ 0) ⊎ (u ≡ 1) → SoundRecord w k u → k < 2 ^ w
-    narrow (inl e) s = omega (arith, s.free e, pow_pos w)
-    narrow (inr e) s = s.narrow e
-
--- Sound records have bytes 0 or 1.
-pub sound_small : (w : ℕ) (keys used : List ℕ) → SoundRecords w keys used → SmallBytes (length used) used
-sound_small w keys used s r l = go (s r l).byte
-  where
-    go : {u : ℕ} → (u ≡ 0) ⊎ (u ≡ 1) → u ≤ 1
-    go (inl e) = omega arith
-    go (inr e) = omega arith

@@ -1,5 +1,5 @@
 -- The tests of one entry in a pass are those of the conditions. Assumes nothing.
-use Rattle.std.proofs.Common.{◌≡◌, ℕ, zero, suc, ◌+◌, ◌-◌, ◌%◌, ◌^◌, ◌<◌, ◌≤◌, max, Bool, true, false, cond, not, ◌&&◌, ◌||◌, eqb, ltb, leb, ◌≢◌, List, length, sym, refl, ap, ◌∙◌, true≢false, mod-eq_of_lt, arith, pow_mono, ltb-false, ltb-true, le-ltb, lt-ltb, eq-eqb, ne_eqb, eqb-true, le-leb, leb-false, leb-true}
+use Rattle.std.proofs.Common.{◌≡◌, ℕ, zero, suc, ◌+◌, ◌-◌, ◌%◌, ◌^◌, ◌<◌, ◌≤◌, max, Bool, true, false, cond, not, ◌&&◌, ◌||◌, eqb, ltb, leb, ◌≢◌, List, length, sym, refl, ap, ◌∙◌, true≢false, mod-eq_of_lt, arith, pow_mono, ltb-false, ltb-true, le-ltb, lt-ltb, eq-eqb, ne_eqb, eqb-true, le-leb, leb-false, leb-true, None, Some}
 use mathlib.Core.Bool.{and-false, and_assoc}
 use lib.Bits.{bit_or, bit_xor, bit_and}
 use lib.Pow.{pow-lt}
@@ -164,16 +164,8 @@ module _ (w : ℕ) (keys used : List ℕ) (c : ℕ) (s : Pass) (d below p : ℕ)
       go false h = refl
 
   -- An entry whose depth does not fit is refused.
-  pub pass_refused : DepthFits ≡ false → (τ : ℕ) (dummy : Bool) → Meets w c s τ dummy → (r : Pass) → r.ok ≡ false → PassedEntry w keys used c s τ dummy d p r
-  pass_refused h τ dummy m r o =
-      record {
-        verdict = o ∙ whole m false h;
-        disc = λ t. absurd (true≢false (sym t ∙ o));
-        bound = λ t. absurd (true≢false (sym t ∙ o));
-        above = λ t. absurd (true≢false (sym t ∙ o));
-        meets = λ t. absurd (true≢false (sym t ∙ o));
-        dummies = λ t. absurd (true≢false (sym t ∙ o));
-      }
+  pub pass_refused : DepthFits ≡ false → (τ : ℕ) (dummy : Bool) → Meets w c s τ dummy → PassedEntry w keys used c s τ dummy d p None
+  pass_refused h τ dummy m = record { verdict = whole m false h; carried = tt }
 
   module _ (fits : DepthFits ≡ true) where
     fewer : below < s.limit
@@ -221,17 +213,23 @@ module _ (w : ℕ) (keys used : List ℕ) (c : ℕ) (s : Pass) (d below p : ℕ)
           ∙ record_fits w (key_at keys) (in_use used) s.disc τ d p _ _ n refl
           (sym (key_fits w τ d s.low below one.1 m.trail m.low under (key_at keys p) s.disc))
 
-      -- An entry whose depth fits, by its pointer, with what is carried behind it; the sum of the discriminator is wrapped, and need not be.
-      pub pass_made : (most : ℕ) → suc most ≡ 2 ^ (w - c) → (r : Pass) → r.ok ≡ pointer_fits w (key_at keys) (in_use used) s.disc τ d (record_of 65535 p) → r.disc ≡ (bit_or s.disc below + 1) % 2 ^ 64
-          → r.low ≡ below → r.limit ≡ cond (eqb p 65535) below most → r.dummies ≡ cond (eqb p 65535) (suc s.dummies) s.dummies → PassedEntry w keys used c s τ dummy d p r
+      -- An entry whose depth fits is refused by its pointer.
+      pub pass_lost : pointer_fits w (key_at keys) (in_use used) s.disc τ d (record_of 65535 p) ≡ false → PassedEntry w keys used c s τ dummy d p None
+      pass_lost o = record { verdict = sym o ∙ whole m true fits; carried = tt }
+
+      -- It passes by its pointer, with what is carried behind it; the sum of the discriminator is wrapped, and need not be.
+      pub pass_made : (most : ℕ) → suc most ≡ 2 ^ (w - c) → (r : Pass) → pointer_fits w (key_at keys) (in_use used) s.disc τ d (record_of 65535 p) ≡ true → r.disc ≡ (bit_or s.disc below + 1) % 2 ^ 64
+          → r.low ≡ below → r.limit ≡ cond (eqb p 65535) below most → r.dummies ≡ cond (eqb p 65535) (suc s.dummies) s.dummies → PassedEntry w keys used c s τ dummy d p (Some r)
       pass_made most k r o e l f n =
           record {
-            verdict = o ∙ whole m true fits;
-            disc = λ t. exact ∙ next_disc;
-            bound = λ t. omega (arith, exact, next_bound);
-            above = λ t. omega (arith, exact, l, or_right s.disc below);
-            meets = λ t. record { trail = one.1; low = rw l under; limit = rw f (go (eqb p 65535)) };
-            dummies = λ t. n;
+            verdict = sym o ∙ whole m true fits;
+            carried = record {
+              disc = exact ∙ next_disc;
+              bound = omega (arith, exact, next_bound);
+              above = omega (arith, exact, l, or_right s.disc below);
+              meets = record { trail = one.1; low = rw l under; limit = rw f (go (eqb p 65535)) };
+              dummies = n;
+            };
           }
         where
           exact : r.disc ≡ bit_or s.disc below + 1

@@ -1,5 +1,5 @@
 -- The turns of a pass over the entries of a page of level 0. Assumes nothing.
-use Rattle.std.proofs.Common.{◌≡◌, ℕ, suc, ◌+◌, ◌-◌, ◌^◌, ◌<◌, ◌≤◌, max, Bool, true, false, cond, not, ◌&&◌, ◌||◌, eqb, ltb, leb, ◌≢◌, List, [], ◌∷◌, length, sym, refl, ap, ◌∙◌, subst, true≢false, arith, pow_mono, ltb-true, le-ltb, lt-ltb, ne_eqb, eqb-true}
+use Rattle.std.proofs.Common.{◌≡◌, ℕ, suc, ◌+◌, ◌-◌, ◌^◌, ◌<◌, ◌≤◌, max, Bool, true, false, cond, not, ◌&&◌, ◌||◌, eqb, ltb, leb, ◌≢◌, List, [], ◌∷◌, length, sym, refl, ap, ◌∙◌, subst, true≢false, arith, pow_mono, ltb-true, le-ltb, lt-ltb, ne_eqb, eqb-true, Option, Some, is_some}
 use mathlib.Core.Bool.{and-false}
 use lib.Pow.{pow-lt}
 use borrow.Author.Tests.{eqb-false, lt-leb}
@@ -13,7 +13,7 @@ use Rattle.index_table.specs.declared.header.Index.{Index}
 use Rattle.bytes_check.specs.Scans.{rows_of}
 use Rattle.leaf_check.specs.Leaves.{countless, NarrowRegister, Scanned, leaves_of_row, RowSound}
 use Rattle.leaf_check.specs.DepthTable.{BitsBehind}
-use Rattle.leaf_check.specs.Passes.{Meets, Begun, PassPre, told, PassedEntry, Passed, scan_behind}
+use Rattle.leaf_check.specs.Passes.{Meets, Begun, PassPre, told, PassedOn, PassedEntry, Passed, scan_behind}
 use Rattle.leaf_check.specs.declared.entries.Scan.{Scan}
 use Rattle.leaf_check.specs.declared.entries.Checked.{Checked}
 use Rattle.leaf_check.specs.declared.passes.Pass.{Pass}
@@ -142,7 +142,7 @@ module _ {h : Index} {index keys used : List ℕ} {page c count : ℕ} {s : Scan
             rw z (scan_same (sym t.disc) (t.trail l).0 (dummies t.scan.dummy refl (t.trail l).1) (omega (arith, t.counted)) t.unclosed)
 
     -- Another entry that is not the last.
-    module _ (l : i + 1 < count) {most below p : ℕ} (a : h.width ≤ 64) (b : suc most ≡ 2 ^ (h.width - c)) (e : BitsBehind h.width (entry_at h index page i).0 below) (f : p ≡ (entry_at h index page i).1) {r : Pass} (z : Passed keys most pass below p r) (g : NarrowRegister h.width keys used) where
+    module _ (l : i + 1 < count) {most below p : ℕ} (a : h.width ≤ 64) (b : suc most ≡ 2 ^ (h.width - c)) (e : BitsBehind h.width (entry_at h index page i).0 below) (f : p ≡ (entry_at h index page i).1) {r : Option Pass} (z : Passed keys most pass below p r) (g : NarrowRegister h.width keys used) where
       abbrev x : Ref
       x = entry_at h index page i
 
@@ -152,11 +152,11 @@ module _ {h : Index} {index keys used : List ℕ} {page c count : ℕ} {s : Scan
       said : PassedEntry h.width keys used c pass t.scan.trail t.scan.dummy x.0 x.1 r
       said = subst (λ (q : ℕ). Passed keys most pass below q r) f z h.width x.0 (pass_pre a) e used g t.told c b t.scan.trail t.scan.dummy t.meets
 
-      answer : r.ok ≡ (ltb c x.0 && Fits)
+      answer : is_some r ≡ (ltb c x.0 && Fits)
       answer = said.verdict ∙ rw t.disc
 
       -- It is refused.
-      pub pass_stops : r.ok ≡ false → h.held ≤ countless → (q : Checked) → q.faults ≢ 0
+      pub pass_stops : is_some r ≡ false → h.held ≤ countless → (q : Checked) → q.faults ≢ 0
           → Scanned (RowSound h index c 0 (rows_of h index page) []) h.width keys used h.held s (leaves_of_row 0 (rows_of h index) (rows_of h index page)) q
       pass_stops o m q n = go (ltb c x.0) refl (sym answer ∙ o)
         where
@@ -169,30 +169,33 @@ module _ {h : Index} {index keys used : List ℕ} {page c count : ℕ} {s : Scan
               (row_entry t.turn (omega arith) (leaf_sound x _ _ _ _ refl refl refl refl (entry_refused h.width keys used countless t.scan x.0 x.1 t.unclosed v)) one_fault) q n
 
       -- It is in order.
-      module _ (o : r.ok ≡ true) (room : s.live + i < countless) where
+      module _ (q : Pass) (o : r ≡ Some q) (room : s.live + i < countless) where
+        on : PassedOn h.width c pass x.0 x.1 q
+        on = (subst (PassedEntry h.width keys used c pass t.scan.trail t.scan.dummy x.0 x.1) o said).carried
+
         above : c < x.0
-        above = ltb-true c x.0 (both (ltb c x.0) Fits (sym answer ∙ o)).0
+        above = ltb-true c x.0 (both (ltb c x.0) Fits (sym answer ∙ ap is_some o)).0
 
         abbrev next : Scan
-        next = record { disc = r.disc; trail = x.0; dummy = eqb x.1 65535; live = cond (eqb x.1 65535) t.scan.live (suc t.scan.live); closed = false }
+        next = record { disc = q.disc; trail = x.0; dummy = eqb x.1 65535; live = cond (eqb x.1 65535) t.scan.live (suc t.scan.live); closed = false }
 
         one : Scanned (Unit {0}) h.width keys used countless t.scan (entry x.0 (record_of 65535 x.1) ∷ []) (record { faults = 0; scan = next })
         one =
-            entry_next h.width keys used countless t.scan x.0 x.1 t.unclosed (both (ltb c x.0) Fits (sym answer ∙ o)).1
-            (rw (lt-leb countless t.scan.live (omega (arith, t.counted))) (and-false (not (eqb x.1 65535)))) t.turn.turned.carried _ refl (λ y. omega (arith, above)) r.disc
-            (said.disc o ∙ ap (set_bit_at h.width x.0) t.disc) (said.bound o)
+            entry_next h.width keys used countless t.scan x.0 x.1 t.unclosed (both (ltb c x.0) Fits (sym answer ∙ ap is_some o)).1
+            (rw (lt-leb countless t.scan.live (omega (arith, t.counted))) (and-false (not (eqb x.1 65535)))) t.turn.turned.carried _ refl (λ y. omega (arith, above)) q.disc
+            (on.disc ∙ ap (set_bit_at h.width x.0) t.disc) (on.bound)
 
-        pub pass_goes : PassTurn h index keys used page c count s r (i + 1)
+        pub pass_goes : PassTurn h index keys used page c count s q (i + 1)
         pass_goes =
             record {
               scan = next;
               turn = row_more t.turn (omega arith) (leaf_sound x _ _ _ _ refl refl refl refl one) refl x.0 refl (rw (ne_eqb (i + 1) count (λ y. omega arith)) (lt-ltb c x.0 above)) [] (leaf_marks _ _);
               unclosed = refl;
               disc = refl;
-              meets = said.meets o;
-              counted = rw (said.dummies o) (counted_one (eqb x.1 65535) t.scan.live pass.dummies (s.live + i) t.counted ∙ omega arith);
-              told = rw (lt-ltb r.low r.disc (said.above o));
-              few = rw (said.dummies o) (few_one (eqb x.1 65535) pass.dummies i t.few);
+              meets = on.meets;
+              counted = rw (on.dummies) (counted_one (eqb x.1 65535) t.scan.live pass.dummies (s.live + i) t.counted ∙ omega arith);
+              told = rw (lt-ltb q.low q.disc (on.above));
+              few = rw (on.dummies) (few_one (eqb x.1 65535) pass.dummies i t.few);
               first = λ y. absurd (omega arith);
               trail = λ y. (ap (λ (k : ℕ). (entry_at h index page k).0) (let k : i ≡ i + 1 - 1 = omega arith in k), above);
             }

@@ -1,5 +1,5 @@
 -- What a pass over the entries of a page of level 0 carries and says. Assumes nothing.
-use Rattle.std.specs.Prelude.{◌≡◌, ℕ, suc, ◌+◌, ◌-◌, ◌^◌, ◌<◌, ◌≤◌, max, Bool, true, false, cond, ◌&&◌, ◌||◌, List, ◌==◌, nat_lt}
+use Rattle.std.specs.Prelude.{◌≡◌, ℕ, suc, ◌+◌, ◌-◌, ◌^◌, ◌<◌, ◌≤◌, max, Bool, true, false, cond, ◌&&◌, ◌||◌, List, ◌==◌, nat_lt, Option, is_some, IfSome}
 use Rattle.leaf_list.specs.Keys.{set_bit_at}
 use Rattle.leaf_list.specs.Register.{key_at, in_use}
 use Rattle.leaf_list.specs.Conditions.{entry_fits}
@@ -33,18 +33,22 @@ pub record PassPre (w : ℕ) (s : Pass) : Type 0 where
 abbrev pub told : ℕ → ℕ → List ℕ → ℕ → Bool
 told disc low used p = nat_lt low disc || (p == 65535 || in_use used p)
 
--- One entry behind another: yes exactly if it is above c and fits, and then what is carried behind it.
-pub record PassedEntry (w : ℕ) (keys used : List ℕ) (c : ℕ) (s : Pass) (τ : ℕ) (dummy : Bool) (d p : ℕ) (r : Pass) : Type 0 where
-  pub verdict : r.ok ≡ (nat_lt c d && entry_fits w (key_at keys) (in_use used) s.disc τ dummy d (record_of 65535 p))
-  pub disc : r.ok ≡ true → r.disc ≡ set_bit_at w d s.disc
-  pub bound : r.ok ≡ true → r.disc < 2 ^ w
-  pub above : r.ok ≡ true → r.low < r.disc
-  pub meets : r.ok ≡ true → Meets w c r d (p == 65535)
-  pub dummies : r.ok ≡ true → r.dummies ≡ cond (p == 65535) (suc s.dummies) s.dummies
+-- What is carried behind an entry that passed.
+pub record PassedOn (w c : ℕ) (s : Pass) (d p : ℕ) (q : Pass) : Type 0 where
+  pub disc : q.disc ≡ set_bit_at w d s.disc
+  pub bound : q.disc < 2 ^ w
+  pub above : q.low < q.disc
+  pub meets : Meets w c q d (p == 65535)
+  pub dummies : q.dummies ≡ cond (p == 65535) (suc s.dummies) s.dummies
+
+-- One entry behind another: some exactly if it is above c and fits, and then what is carried behind it.
+pub record PassedEntry (w : ℕ) (keys used : List ℕ) (c : ℕ) (s : Pass) (τ : ℕ) (dummy : Bool) (d p : ℕ) (r : Option Pass) : Type 0 where
+  pub verdict : is_some r ≡ (nat_lt c d && entry_fits w (key_at keys) (in_use used) s.disc τ dummy d (record_of 65535 p))
+  pub carried : IfSome r (PassedOn w c s d p)
 
 -- The same for whatever depth has the bits `below` behind it, whatever bytes make a register with the keys, in a page with the bits `most`
 -- behind its last depth, and behind whatever entry the pass stands for.
-abbrev pub Passed : List ℕ → ℕ → Pass → ℕ → ℕ → Pass → Type 0
+abbrev pub Passed : List ℕ → ℕ → Pass → ℕ → ℕ → Option Pass → Type 0
 Passed keys most s below p r =
     (w d : ℕ) → PassPre w s → BitsBehind w d below → (used : List ℕ) → NarrowRegister w keys used → told s.disc s.low used p ≡ true → (c : ℕ) → suc most ≡ 2 ^ (w - c) → (τ : ℕ) (dummy : Bool) → Meets w c s τ dummy
     → PassedEntry w keys used c s τ dummy d p r

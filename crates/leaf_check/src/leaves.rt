@@ -29,6 +29,7 @@ pub fn scan_leaves(
     ensures { Scanned (RowSound h index.now c 0 (rows_of h index.now page.0) []) h.width keys.now used.now h.held s (leaves_of_row 0 (rows_of h index.now) (rows_of h index.now page.0)) result }
 {
     let w = u64::from(h.width);
+    // No From, whose contract does not say that the number is below 65,536: the proof needs it.
     let held = h.held as u64;
     let close = u64::from(c);
     let n = usize::from(index_table::layout::count(index, h.entries, page));
@@ -48,10 +49,11 @@ pub fn scan_leaves(
     for i in 0..last {
         let d = index_table::layout::depth(index, h.entries, page, i);
         let p = index_table::layout::pointer(index, h.entries, page, i);
-        pass = crate::passes::pass_entry(keys, most, pass, masks[usize::from(d)], p);
-        if !pass.ok {
+        let Some(next) = crate::passes::pass_entry(keys, most, pass, masks[usize::from(d)], p)
+        else {
             return crate::passes::refused(pass);
-        }
+        };
+        pass = next;
     }
     let scan = crate::passes::scan_behind(index, h, page, most, s, last, pass);
     if held < scan.live {

@@ -7,11 +7,10 @@ use crate::entries::{Checked, Scan};
 use index_table::header::Index;
 use index_table::layout::PageNo;
 
-// What a pass carries from entry to entry: whether all fitted, the discriminator, all bits behind the depth of the last entry, those behind the
+// What a pass carries from entry to entry: the discriminator, all bits behind the depth of the last entry, those behind the
 // depth that the next must pass, and how many were dummies.
 #[derive(Clone, Copy)]
 pub struct Pass {
-    pub ok: bool,
     pub disc: u64,
     pub low: u64,
     pub limit: u64,
@@ -46,7 +45,6 @@ pub fn pass_start(w: u64, c: u64, s: Scan) -> Pass
     ensures { Begun w c s result }
 {
     Pass {
-        ok: true,
         disc: s.disc,
         low: bits_behind(w, s.trail),
         limit: bits_behind(w, first_floor(c, s.dummy, s.trail)),
@@ -78,57 +76,40 @@ fn key_fits(key: u64, disc: u64, low: u64, below: u64) -> bool
     x <= below && x <= low
 }
 
-// A pass that stops at an entry.
-fn stopped(s: Pass) -> Pass
-    ensures { result.ok ≡ false }
-{
-    Pass {
-        ok: false,
-        disc: s.disc,
-        low: s.low,
-        limit: s.limit,
-        dummies: s.dummies,
-    }
-}
-
-// One entry behind what is carried, with the bits `below` behind its depth, in a page with the bits `most` behind its last depth.
-pub fn pass_entry(keys: &[u64], most: u64, s: Pass, below: u64, p: u32) -> Pass
+// One entry behind what is carried, with the bits `below` behind its depth, in a page with the bits `most` behind its last depth; none where it
+// does not fit. The pointer is a number here, and no Option of a record: one comparison with the register's length tells a record from a dummy.
+pub fn pass_entry(keys: &[u64], most: u64, s: Pass, below: u64, p: u32) -> Option<Pass>
     requires { s.dummies < 255 }
     ensures { Passed keys.now most s below p result }
 {
     if !depth_fits(s.disc, s.limit, below) {
-        return stopped(s);
+        return None;
     }
     let disc = (s.disc | below).wrapping_add(1);
     let r = p as usize;
     if r < keys.len() {
-        return Pass {
-            ok: key_fits(keys[r], s.disc, s.low, below),
+        if !key_fits(keys[r], s.disc, s.low, below) {
+            return None;
+        }
+        return Some(Pass {
             disc,
             low: below,
             limit: most,
             dummies: s.dummies,
-        };
+        });
     }
-    if r != 65535 {
-        return Pass {
-            ok: false,
-            disc,
-            low: below,
-            limit: most,
-            dummies: s.dummies,
-        };
+    if r != 65535 || s.low <= below {
+        return None;
     }
-    Pass {
-        ok: below < s.low,
+    Some(Pass {
         disc,
         low: below,
         limit: below,
         dummies: s.dummies + 1,
-    }
+    })
 }
 
-// The refusal of a page; it says nothing of what is carried, and keeps no more of the pass than one number.
+// The refusal of a page; it says nothing of what is carried, and keeps no more of the pass than one number, so that the loop has nothing to clear.
 pub fn refused(pass: Pass) -> Checked
     ensures { result.faults ≢ 0 }
 {

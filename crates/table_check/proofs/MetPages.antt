@@ -1,7 +1,7 @@
 -- A page as it is met: its size, its mark, and its row of entries with all below them. Assumes nothing.
 use mathlib.Core.Path.{◌≡◌, refl, sym, ap, ap₂, subst, ◌∙◌}
 use mathlib.Core.Logic.{◌↔◌, ◌⊎◌, inl, inr, ◌≢◌}
-use mathlib.Core.Bool.{Bool, true, false, true≢false}
+use mathlib.Core.Bool.{Bool, true, false}
 use mathlib.Core.List.{List, [], ◌∷◌}
 use Prim.Native.Nat.{ℕ, suc, ◌+◌, ◌-◌, ◌≤◌, ◌<◌}
 use native.Mathlib.Omega.{arith}
@@ -20,7 +20,7 @@ use Rattle.leaf_check.specs.Leaves.{Carried, Scanned, leaves_of_row, Ends, RowSo
 use Rattle.table_check.specs.Walks.{WalkPre, Entered, Walked}
 use Rattle.leaf_check.specs.declared.entries.Scan.{Scan}
 use Rattle.leaf_check.specs.declared.entries.Checked.{Checked}
-use Rattle.bytes_check.proofs.Iff.{iff_no, iff_yes, said_no}
+use Rattle.bytes_check.proofs.Iff.{said_no}
 use Rattle.leaf_check.proofs.EntryTests.{scanned_no}
 
 -- ---- its size
@@ -38,16 +38,7 @@ module _ (h : Index) (index : List ℕ) (level page : ℕ) where
     (λ t. let k = length_refs (layout_of h.entries) bytes in record { number = p; level = l; some = omega arith; few = omega arith }),
     (λ s. let k = length_refs (layout_of h.entries) bytes in (omega (arith, s.some), omega (arith, s.few))),
   )
-
   -- ---- its mark
-
-  -- A page that is not of its size, or is marked, is refused.
-  pub entered_no : (map map' : List ℕ) → (Sized → get_or map page 0 ≡ 0 → ⊥) → Entered h index level page map map' false
-  entered_no map map' f = record { verdict = iff_no (λ a. f a.0 a.1); marks = λ t. absurd (true≢false (sym t)) }
-
-  -- Any other page is marked.
-  pub entered_yes : (map : List ℕ) → Sized → get_or map page 0 ≡ 0 → Entered h index level page map (set map page 1) true
-  entered_yes map s z = record { verdict = iff_yes (s, z); marks = λ t. refl }
 
 -- The mark that is set counts the page once more.
 pub set_mark : (map : List ℕ) (p q : ℕ) → p < length map → get_or map p 0 ≡ 0 → get_or (set map p 1) q 0 ≡ get_or map q 0 + same p q

@@ -68,18 +68,6 @@ index_read b h r = same_index (sym r.width) (sym r.entries) (sym r.pages) (sym r
 -- ---- the parts together
 
 module _ (index keys used : List ℕ) where
-  -- The header of sound tables is in order.
-  pub sound_header : Sound index keys used → HeaderFits index (length used)
-  sound_header s = record { limits = s.limits; table = s.lengths.table; spare = s.spare }
-
-  -- Records that are not sound.
-  pub unsound_records : {w : ℕ} → w ≡ width_of index → (SoundRecords w keys used → ⊥) → Sound index keys used → ⊥
-  unsound_records e n s = n (rw e s.register.records)
-
-  -- A header that does not say how many records are in use.
-  pub unsound_held : {held : ℕ} → held ≡ held_of index → (count_in_use used ≡ held → ⊥) → Sound index keys used → ⊥
-  unsound_held e n s = n (sym s.held ∙ sym e)
-
   -- Once the header and the records are in order and the records held are counted, the pages decide.
   module _ (long : length keys ≡ length used) (header : HeaderFits index (length used)) (records : SoundRecords (width_of index) keys used) where
     read_pre : TreePre (index_of index) index keys used
@@ -109,10 +97,6 @@ module _ (index keys used : List ℕ) where
             (sym held) (check_law (width_of index) keys used (narrow_records (width_of index) keys used records) (leaf_entries index))
 
     module _ (h : Index) (r : IndexOf index h) where
-      -- What the check of the tree takes.
-      pub tree_pre : TreePre h index keys used
-      tree_pre = subst (λ (i : Index). TreePre i index keys used) (index_read index h r) read_pre
-
       -- The pages decide.
       pub sound_pages : h.held ≡ count_in_use used → PagesSound h index keys used ↔ Sound index keys used
       sound_pages held = subst (λ (i : Index). PagesSound i index keys used ↔ Sound index keys used) (index_read index h r) (read_sound (sym r.held ∙ held))

@@ -6,7 +6,6 @@ use mathlib.Core.List.{List, [], ◌∷◌}
 use Prim.Native.Nat.{ℕ, zero, suc, ◌≤◌, ◌<◌}
 use native.Mathlib.Omega.{arith}
 use lib.Dec.{eqb, ltb, leb}
-use lib.Pow.{pow_pos}
 use lib.ListN.{length, get_or, replicate}
 use borrow.Author.Tests.{eqb-true, eqb-false, eq-eqb, ltb-true, ltb-false, leb-true, le-leb}
 use Rattle.leaf_list.specs.Register.{key_at, in_use}
@@ -22,9 +21,8 @@ use Rattle.index_table.proofs.PageRows.{length_refs}
 use Rattle.index_table.proofs.Frames.{refs_beyond}
 use Rattle.bytes_check.specs.Scans.{PageCleared, rows_of}
 use Rattle.leaf_check.specs.Leaves.{Passing, leaves_below, EntrySound}
-use Rattle.leaf_check.specs.DepthTable.{DepthMasks}
-use Rattle.table_check.specs.Walks.{WalkPre, Walked}
-use Rattle.table_check.specs.Trees.{TreePre, TreeSound, PagesSound, level_of_root}
+use Rattle.table_check.specs.Walks.{Walked}
+use Rattle.table_check.specs.Trees.{TreeSound, PagesSound, level_of_root}
 use Rattle.leaf_check.specs.declared.entries.Scan.{Scan}
 use Rattle.leaf_check.specs.declared.entries.Checked.{Checked}
 
@@ -72,19 +70,6 @@ no_marks (suc n) (suc q) = no_marks n q
 -- The check's state at the start.
 abbrev start_scan : Scan
 start_scan = record { disc = 0; trail = 0; dummy = false; live = 0; closed = false }
-
--- What the check of the root takes.
-pub walk_start : (h : Index) (index keys used masks map : List ℕ) → TreePre h index keys used → DepthMasks h.width masks → h.pages ≤ length map → ((q : ℕ) → get_or map q 0 ≡ 0) → WalkPre h index keys used masks map start_scan
-walk_start h index keys used masks map p d l z =
-    record {
-      table = omega (arith, p.table);
-      width = p.width;
-      register = p.register;
-      depths = d;
-      carried = record { disc = pow_pos h.width; trail = omega arith; live = omega arith };
-      long = l;
-      marked = λ q. omega (arith, z q);
-    }
 
 module _ {h : Index} {index keys used : List ℕ} {level : ℕ} {map map' : List ℕ} {r : Checked} (unmarked : (q : ℕ) → get_or map q 0 ≡ 0)
     (w : Walked h index keys used (suc level) (root_ref h.root.0) map map' start_scan r) where
@@ -166,17 +151,9 @@ root_entries h index level n a b e =
     ((λ t. (a, λ k. let g = leb-true 2 n t in omega arith)), (λ f. le-leb 2 n (omega (arith, f.1 (omega arith)))))
 
 module _ (h : Index) (index keys used : List ℕ) where
-  -- A root that is no page.
-  pub root_beyond : h.pages ≤ h.root.0 → PagesSound h index keys used → ⊥
-  root_beyond l p = omega (arith, p.pages.below.0.number)
-
   module _ (level : ℕ) (e : level ≡ level_of_root h index) where
     abbrev RootFits : Type 0
     RootFits = (level ≤ 15) × (1 ≤ level → 2 ≤ length (rows_of h index h.root.0))
-
-    -- A root that may not stand where it does.
-    pub root_refused : (RootFits → ⊥) → PagesSound h index keys used → ⊥
-    root_refused n p = n (omega (arith, p.pages.level_high), λ l. p.pages.root_rule (omega arith))
 
     -- Any other root: the tree below it decides.
     pub root_sound : RootFits → TreeSound h index keys used level ↔ PagesSound h index keys used

@@ -1,8 +1,5 @@
 -- One entry: what is refused, and what is carried on. Assumes nothing.
-use Rattle.leaf_list.proofs.CheckLoop.{fits_depth}
-use Rattle.leaf_list.specs.Register.{key_at, in_use}
-use Rattle.index_table.specs.Pages.{record_of}
-use Rattle.std.proofs.Common.{sym, ◌∙◌, rules}
+use Rattle.std.proofs.Common.{sym, ◌∙◌}
 use Rattle.leaf_check.proofs.EntryTests.{entry_closed, entry_refused, entry_beyond, entry_last, entry_next}
 use Rattle.leaf_check.proofs.entries.scan_entry.Goals as goal
 use Rattle.leaf_check.proofs.entries.scan_entry.Goals.{then-s-via-then-s, then-s-via-else-s+then-not-entry_fits, then-s-via-else-s+else-not-entry_fits+then-too_many}
@@ -17,9 +14,6 @@ returns-then-s c =
 
 pub returns-then-d-eq0 : goal.returns-then-d-eq0
 returns-then-d-eq0 c = entry_last _ _ _ _ _ _ c.args.p c.if-s.false (sym c.entry_fits.ensures ∙ c.if-not-entry_fits.false) (sym c.too_many.ensures ∙ c.if-too_many.false) c.requires.2 _ c.live_behind-live.ensures c.if-d-eq0.true
-
-pub next_discriminator-disc-requires : goal.next_discriminator-disc-requires
-next_discriminator-disc-requires c = let a = c.args in (search rules, search rules, fits_depth a.w (key_at a.keys.now) (in_use a.used.now) a.s.disc a.s.trail a.s.dummy a.d (record_of 65535 a.p) (sym c.entry_fits.ensures ∙ c.if-not-entry_fits.false), search rules)
 
 pub returns : goal.returns
 returns c = entry_next _ _ _ _ _ _ c.args.p c.if-s.false (sym c.entry_fits.ensures ∙ c.if-not-entry_fits.false) (sym c.too_many.ensures ∙ c.if-too_many.false) c.requires.2 _ c.live_behind-live.ensures c.if-d-eq0.false _ c.next_discriminator-disc.ensures.0 c.next_discriminator-disc.ensures.1

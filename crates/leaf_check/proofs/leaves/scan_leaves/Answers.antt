@@ -1,6 +1,5 @@
 -- The entries of a page of level 0: after each turn what is left is in order exactly if the whole row is. Assumes nothing.
 use Rattle.std.proofs.Common.{◌+◌, ◌-◌, ◌∙◌, refl, arith, eq-eqb, ne_eqb}
-use borrow.Author.Tests.{not-true, not-false}
 use Rattle.leaf_check.proofs.RowTurns.{entry_few, row_start, row_depth, row_all, leaf_sound, leaf_closed, leaf_last}
 use Rattle.leaf_check.proofs.UncountedTurns.{carried_uncounted, carried_counted, too_many_live, turn_counted}
 use Rattle.leaf_check.proofs.PassTurns.{named_few, turn_at, pass_begun, first_stops, pass_ends, pass_stops, pass_goes}
@@ -8,25 +7,28 @@ use Rattle.leaf_check.proofs.DepthTable.{masked}
 use Rattle.leaf_check.proofs.EntryTests.{one_fault}
 use Rattle.leaf_check.proofs.leaves.scan_leaves.Goals as goal
 
-pub count-requires : goal.count-requires
-count-requires c = c.requires.within
+pub pointer-first-requires : goal.pointer-first-requires
+pointer-first-requires c =
+    let pre = c.requires in
+    (pre.within, entry_few c.args.h _ _ _ 0 (c.from-n.ensures ∙ c.count.ensures) pre.few (omega (arith, c.if-n-eq0.false)))
+
+pub depth-d-requires : goal.depth-d-requires
+depth-d-requires c = (c.requires.within, named_few c.loop-i.invariant.named c.requires.few (omega (arith, c.loop-i-test.true)))
+
+pub pointer-p-requires : goal.pointer-p-requires
+pointer-p-requires c = (c.requires.within, named_few c.loop-i.invariant.named c.requires.few (omega (arith, c.loop-i-test.true)))
+
+pub depth-d-requires-2 : goal.depth-d-requires-2
+depth-d-requires-2 c = (c.requires.within, named_few c.loop-i.invariant.named c.requires.few (omega arith))
+
+pub pointer-p-requires-2 : goal.pointer-p-requires-2
+pointer-p-requires-2 c = (c.requires.within, named_few c.loop-i.invariant.named c.requires.few (omega arith))
 
 pub returns-then-n-eq0 : goal.returns-then-n-eq0
 returns-then-n-eq0 c = row_all (row_start _ _ _ (c.from-n.ensures ∙ c.count.ensures) (λ q. omega arith) c.requires.carried) (omega (arith, c.if-n-eq0.true))
 
 pub returns-then-s : goal.returns-then-s
 returns-then-s c = leaf_closed (row_start _ _ _ (c.from-n.ensures ∙ c.count.ensures) (λ q. omega arith) c.requires.carried) (omega (arith, c.if-n-eq0.false)) c.if-s.true
-
-pub bits_behind-most-requires : goal.bits_behind-most-requires
-bits_behind-most-requires c = omega (arith, c.requires.width, c.from-w.ensures)
-
-pub pass_start-pass-requires : goal.pass_start-pass-requires
-pass_start-pass-requires c = (omega (arith, c.requires.width, c.from-w.ensures), omega (arith, c.requires.carried.trail, c.from-w.ensures))
-
-pub pointer-first-requires : goal.pointer-first-requires
-pointer-first-requires c =
-    let pre = c.requires in
-    (pre.within, entry_few c.args.h _ _ _ 0 (c.from-n.ensures ∙ c.count.ensures) pre.few (omega (arith, c.if-n-eq0.false)))
 
 pub returns-then-not-record_told : goal.returns-then-not-record_told
 returns-then-not-record_told c =
@@ -54,32 +56,12 @@ loop-i-init c =
           (rw (← c.pointer-first.ensures.0, ← c.record_told.ensures) c.if-not-record_told.false);
     }
 
-pub depth-d-requires : goal.depth-d-requires
-depth-d-requires c =
+pub returns-in_default : goal.returns-in_default
+returns-in_default c =
     let pre = c.requires in
     let named = c.loop-i.invariant.named in
-    (pre.within, named_few named pre.few (omega (arith, c.loop-i-test.true)))
-
-pub pointer-p-requires : goal.pointer-p-requires
-pointer-p-requires c =
-    let pre = c.requires in
-    let named = c.loop-i.invariant.named in
-    (pre.within, named_few named pre.few (omega (arith, c.loop-i-test.true)))
-
-pub bounds-masks-from : goal.bounds-masks-from
-bounds-masks-from c = omega (arith, c.requires.depths.long, c.from.ensures)
-
-pub pass_entry-pass-requires : goal.pass_entry-pass-requires
-pass_entry-pass-requires c =
-    let named = c.loop-i.invariant.named in
-    omega (arith, c.loop-i.invariant.turn.few, named.few, named.last, c.loop-i-test.true)
-
-pub returns-then-not-pass : goal.returns-then-not-pass
-returns-then-not-pass c =
-    let pre = c.requires in
-    let named = c.loop-i.invariant.named in
-    pass_stops c.loop-i.invariant.turn (omega (arith, named.last, c.loop-i-test.true)) pre.width named.most (masked pre.depths c.from.ensures (omega (arith, c.from.ensures, c.depth-d.type_inv)) c.depth-d.ensures) c.pointer-p.ensures.0 c.pass_entry-pass.ensures pre.register
-    (not-true _ c.if-not-pass.true) (omega (arith, named.held, named.low)) _ c.refused.ensures
+    pass_stops c.loop-i.invariant.turn (omega (arith, named.last, c.loop-i-test.true)) pre.width named.most (masked pre.depths c.from.ensures (omega (arith, c.from.ensures, c.depth-d.type_inv)) c.depth-d.ensures) c.pointer-p.ensures.0 c.in_default.ensures pre.register
+    refl (omega (arith, named.held, named.low)) _ c.refused.ensures
 
 pub loop-i-preserved : goal.loop-i-preserved
 loop-i-preserved c =
@@ -87,8 +69,8 @@ loop-i-preserved c =
     let named = c.loop-i.invariant.named in
     record {
       named = named;
-      turn = pass_goes c.loop-i.invariant.turn (omega (arith, named.last, c.loop-i-test.true)) pre.width named.most (masked pre.depths c.from.ensures (omega (arith, c.from.ensures, c.depth-d.type_inv)) c.depth-d.ensures) c.pointer-p.ensures.0 c.pass_entry-pass.ensures pre.register
-          (not-false _ c.if-not-pass.false) (omega (arith, pre.carried.live, named.held, named.low, named.few, named.last, c.loop-i-test.true));
+      turn = pass_goes c.loop-i.invariant.turn (omega (arith, named.last, c.loop-i-test.true)) pre.width named.most (masked pre.depths c.from.ensures (omega (arith, c.from.ensures, c.depth-d.type_inv)) c.depth-d.ensures) c.pointer-p.ensures.0 c.in-Some.ensures pre.register
+          _ refl (omega (arith, pre.carried.live, named.held, named.low, named.few, named.last, c.loop-i-test.true));
     }
 
 pub scan_behind-scan-requires : goal.scan_behind-scan-requires
@@ -102,23 +84,11 @@ returns-then-held-scan c =
     let named = c.loop-i.invariant.named in
     too_many_live (pass_ends (turn_at (omega arith) c.loop-i.invariant.turn) named.most c.scan_behind-scan.ensures) (omega (arith, c.if-held-scan.true, named.held)) _ one_fault
 
-pub depth-d-requires-2 : goal.depth-d-requires-2
-depth-d-requires-2 c =
-    let pre = c.requires in
-    let named = c.loop-i.invariant.named in
-    (pre.within, named_few named pre.few (omega arith))
-
 pub returns-then-d-c : goal.returns-then-d-c
 returns-then-d-c c =
     let named = c.loop-i.invariant.named in
     row_depth (turn_counted (pass_ends (turn_at (omega arith) c.loop-i.invariant.turn) named.most c.scan_behind-scan.ensures) (omega (arith, named.held, named.low)) (omega (arith, c.if-held-scan.false, named.held))) (omega (arith, named.last)) _ c.depth-d-2.ensures
     (rw (eq-eqb (c.from-n.result - 1 + 1) c.from-n.result (omega (arith, named.last))) (ne_eqb c.depth-d-2.result c.args.c (λ z. omega (arith, c.if-d-c.true)))) _ one_fault
-
-pub pointer-p-requires-2 : goal.pointer-p-requires-2
-pointer-p-requires-2 c =
-    let pre = c.requires in
-    let named = c.loop-i.invariant.named in
-    (pre.within, named_few named pre.few (omega arith))
 
 pub scan_entry-requires : goal.scan_entry-requires
 scan_entry-requires c =

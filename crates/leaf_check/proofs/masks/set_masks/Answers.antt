@@ -1,14 +1,7 @@
 -- The masks before depth d are set, and the next one is at hand. Assumes nothing.
-use Rattle.std.proofs.Common.{◌≡◌, ◌+◌, ◌<◌, refl, subst, arith}
-use Rattle.leaf_check.proofs.DepthTable.{SetBefore, half, set_none, set_more, set_all}
+use Rattle.std.proofs.Common.{◌≡◌, ◌+◌, ◌<◌, subst, arith}
+use Rattle.leaf_check.proofs.DepthTable.{SetBefore, half, set_more, set_all}
 use Rattle.leaf_check.proofs.masks.set_masks.Goals as goal
-
-pub loop-d-init : goal.loop-d-init
-loop-d-init c =
-    (c.requires.0, refl, omega arith, c.bits_behind-below.ensures, set_none c.args.w c.requires.1)
-
-pub bounds-masks-d : goal.bounds-masks-d
-bounds-masks-d c = omega (arith, c.loop-d.invariant.0, c.loop-d.invariant.1, c.loop-d.invariant.4.long, c.loop-d-test.true)
 
 pub loop-d-preserved : goal.loop-d-preserved
 loop-d-preserved c =

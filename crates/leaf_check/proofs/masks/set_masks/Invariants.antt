@@ -5,6 +5,3 @@ use Rattle.leaf_check.proofs.masks.set_masks.Given as goal
 
 abbrev pub invariant-loop-d : goal.invariant-loop-d
 invariant-loop-d l = (l.w ≤ 64) × (l.last ≡ l.w) × (l.d ≤ suc l.w) × (suc l.below ≡ 2 ^ (l.w - l.d)) × SetBefore l.w l.masks l.d
-
-abbrev pub decreases-loop-d : goal.decreases-loop-d
-decreases-loop-d l = suc l.last - l.d

@@ -6,14 +6,8 @@ use Rattle.table_check.proofs.MetPages.{met_page, met_marked, met_long, leaves_p
 use Rattle.leaf_check.proofs.EntryTests.{one_fault}
 use Rattle.table_check.proofs.pages.+child_ok_page_ok.Goals as goal
 
-pub child_ok-page_ok-requires : goal.child_ok-page_ok-requires
-child_ok-page_ok-requires t c = (let m = c.decreases in omega (arith, m, c.requires.1), c.requires.0)
-
 pub child_ok-returns : goal.child_ok-returns
 child_ok-returns t c = walked_lower _ c.requires.1 c.page_ok.ensures
-
-pub page_ok-enter-requires : goal.page_ok-enter-requires
-page_ok-enter-requires t c = (c.requires.table, c.requires.long)
 
 pub page_ok-returns-then-not-enter : goal.page_ok-returns-then-not-enter
 page_ok-returns-then-not-enter t c = walked_refused c.requires c.enter.ensures c.if-not-enter.true _ one_fault
@@ -27,17 +21,11 @@ page_ok-shape_of-map-then-level-eq0 t c = met_long (met_page c.requires c.enter.
 pub page_ok-returns-then-level-eq0 : goal.page_ok-returns-then-level-eq0
 page_ok-returns-then-level-eq0 t c = walked_leaves (met_page c.requires c.enter.ensures c.if-not-enter.false) c.if-level-eq0.true c.scan_leaves.ensures
 
-pub page_ok-count-requires : goal.page_ok-count-requires
-page_ok-count-requires t c = (leaves_pre (met_page c.requires c.enter.ensures c.if-not-enter.false)).within
-
 pub page_ok-loop-i-init : goal.page_ok-loop-i-init
 page_ok-loop-i-init t c = (row_start _ _ _ (c.from-n.ensures ∙ c.count.ensures) (met_marked (met_page c.requires c.enter.ensures c.if-not-enter.false)) (met_page c.requires c.enter.ensures c.if-not-enter.false).pre.carried, refl)
 
 pub page_ok-depth-d-requires : goal.page_ok-depth-d-requires
 page_ok-depth-d-requires t c = let l = leaves_pre (met_page c.requires c.enter.ensures c.if-not-enter.false) in (l.within, entry_few c.args.h _ _ _ _ (c.from-n.ensures ∙ c.count.ensures) l.few c.loop-i-test.true)
-
-pub page_ok-shape_of-map-then-not-closes : goal.page_ok-shape_of-map-then-not-closes
-page_ok-shape_of-map-then-not-closes t c = c.loop-i.invariant.1 ∙ met_long (met_page c.requires c.enter.ensures c.if-not-enter.false)
 
 pub page_ok-returns-then-not-closes : goal.page_ok-returns-then-not-closes
 page_ok-returns-then-not-closes t c = walked_row_no (met_page c.requires c.enter.ensures c.if-not-enter.false) one_fault (row_depth c.loop-i.invariant.0 c.loop-i-test.true _ c.depth-d.ensures (sym c.closes.ensures ∙ c.if-not-closes.true) _ one_fault)
@@ -60,9 +48,6 @@ page_ok-loop-i-preserved t c = let a = c.args in let x = walked_at (entry_at a.h
   row_more c.loop-i.invariant.0 c.loop-i-test.true x.scanned o _ c.depth-d.ensures (sym c.closes.ensures ∙ c.if-not-closes.false) _ (x.marks o),
   c.child_ok-next.auto.map ∙ c.loop-i.invariant.1,
 )
-
-pub page_ok-shape_of-map : goal.page_ok-shape_of-map
-page_ok-shape_of-map t c = c.loop-i.invariant.1 ∙ met_long (met_page c.requires c.enter.ensures c.if-not-enter.false)
 
 pub page_ok-returns : goal.page_ok-returns
 page_ok-returns t c = walked_row (met_page c.requires c.enter.ensures c.if-not-enter.false) (row_all c.loop-i.invariant.0 c.loop-i-test.false) (λ o. row_marks c.loop-i.invariant.0 c.loop-i-test.false)
