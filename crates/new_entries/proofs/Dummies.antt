@@ -75,19 +75,36 @@ dummies_begin w key low high p h next =
     ∙ ap (λ (ps : List ℕ). dummies low high ps []) next.left
 
 -- One more.
-dummies_next : (w key low high p r : ℕ) → low < p → p < high → p ≤ w → NextPosition w key p r
+pub dummies_next : (w key low high p r : ℕ) → low < p → p < high → p ≤ w → NextPosition w key p r
     → dummies low high (left_from w key p) [] ≡ entry p none ∷ dummies low high (left_from w key r) []
 dummies_next w key low high p r h g l next =
     let left : later w key p ≡ left_from w key r = rw (le-leb p w l) next.left in
     dummies_between low high p (later w key p) [] h g ∙ ap (λ (ps : List ℕ). entry p none ∷ dummies low high ps []) left
 
 -- No more.
-dummies_end : (w key low high p : ℕ) → high ≤ p → dummies low high (left_from w key p) [] ≡ []
+pub dummies_end : (w key low high p : ℕ) → high ≤ p → dummies low high (left_from w key p) [] ≡ []
 dummies_end w key low high p h = dummies_high low high p (later w key p) [] h ∙ go (leb p w)
   where
     go : (t : Bool) → dummies low high (cond t (positions p (drop p (bits w key))) []) [] ≡ []
     go true = dummies_none low high p (drop p (bits w key)) [] (omega arith)
     go false = refl
+
+-- Behind low, none is passed over for low.
+dummies_above : (low high i : ℕ) (k : Key) → low ≤ i → dummies low high (positions i k) [] ≡ dummies 0 high (positions i k) []
+dummies_above low high i [] h = rw (lt-ltb low (suc i) (omega arith), lt-ltb 0 (suc i) (omega arith)) refl
+dummies_above low high i (false ∷ k) h = dummies_above low high (suc i) k (omega arith)
+dummies_above low high i (true ∷ k) h =
+    rw (lt-ltb low (suc i) (omega arith), lt-ltb 0 (suc i) (omega arith))
+    (ap (λ (es : List Entry). cond (ltb (suc i) high) (entry (suc i) none ∷ es) es) (dummies_above low high (suc i) k (omega arith)))
+
+-- So an iterator that begins behind low has all between low and high left.
+pub dummies_begun : (w key low high p : ℕ) → low ≤ w → NextPosition w key low p → map ref_of (dummies 0 high (left_from w key p) []) ≡ map ref_of (dummies low high (positions 0 (bits w key)) [])
+dummies_begun w key low high p h next =
+    let z : 0 + low ≡ low = omega arith in
+    ap (map ref_of)
+    (ap (λ (ps : List ℕ). dummies 0 high ps []) (sym next.left)
+    ∙ sym (dummies_above low high low (drop low (bits w key)) (omega arith))
+    ∙ sym (rw z at (dummies_skip high 0 low (bits w key) [] (omega (arith, bits_length w key)))))
 
 -- The dummies es stand before the position p.
 pub record Passing (w key low high p : ℕ) (es : List Entry) : Type 0 where
@@ -199,42 +216,41 @@ count_low w key low to behind is =
 
 -- ---- written
 
--- The dummies before the position p stand from `at` on; the next goes to `next`.
-pub record Marking (b₀ : List ℕ) (at w key low high : ℕ) (b : List ℕ) (next p : ℕ) : Type 0 where
-  pub es : List Entry
-  pub passing : Passing w key low high p es
+-- Of the dummies es, xs stand from `at` on, and ys are left; the next goes to `next`.
+pub record Marking (b₀ : List ℕ) (at : ℕ) (es : List Entry) (b : List ℕ) (next : ℕ) (ys : List Ref) : Type 0 where
+  pub xs : List Ref
+  pub left : xs ++ ys ≡ map ref_of es
   pub long : length b ≡ length b₀
-  pub place : next ≡ at + 3 * length es
-  pub bytes : b ≡ over b₀ at (row_bytes 2 (map ref_of es))
+  pub place : next ≡ at + 3 * length xs
+  pub bytes : b ≡ over b₀ at (row_bytes 2 xs)
 
-pub marking_none : (b : List ℕ) (at w key low high p : ℕ) → low ≤ w → NextPosition w key low p → Marking b at w key low high b at p
+pub marking_none : (b : List ℕ) (at : ℕ) {es : List Entry} {ys : List Ref} → ys ≡ map ref_of es → Marking b at es b at ys
 unfolding row_bytes
-marking_none b at w key low high p h next = record { es = []; passing = passing_none w key low high p h next; long = refl; place = omega arith; bytes = over_none b at }
+marking_none b at h = record { xs = []; left = h; long = refl; place = omega arith; bytes = over_none b at }
 
-pub marking_room : {b₀ : List ℕ} {at w key low high : ℕ} {b : List ℕ} {next p : ℕ} → p < high → at + 3 * length (dummies low high (positions 0 (bits w key)) []) ≤ length b₀ → Marking b₀ at w key low high b next p
-    → next + 3 ≤ length b
-marking_room g r h = omega (arith, h.long, h.place, passing_some g h.passing)
+module _ {b₀ : List ℕ} {at : ℕ} {es : List Entry} {b : List ℕ} {next : ℕ} {ys : List Ref} (h : Marking b₀ at es b next ys) where
+  pub marking_room : {x : Ref} (zs : List Ref) → ys ≡ x ∷ zs → at + 3 * length es ≤ length b₀ → next + 3 ≤ length b
+  marking_room {x} zs e room = omega (arith, h.long, h.place, ap length h.left, length-append h.xs ys, ap length e, length-map es ref_of)
 
-pub marking_more : {b₀ : List ℕ} {at w key low high : ℕ} {b : List ℕ} {next p r : ℕ} {b' : List ℕ} → p < high → high ≤ suc w → NextPosition w key p r → Marking b₀ at w key low high b next p
-    → length b' ≡ length b → b' ≡ over b next (ref_bytes 2 (p, 65535)) → Marking b₀ at w key low high b' (next + 3) r
-unfolding row_bytes
-marking_more {b₀} {at} {w} {key} {low} {high} {b} {next} {p} {r} {b'} g s n h l e =
-    let here : next ≡ at + length (row_bytes 2 (map ref_of h.es)) = omega (arith, h.place, length_row_bytes 2 (map ref_of h.es), length-map h.es ref_of) in
-    record {
-      es = h.es ++ entry p none ∷ [];
-      passing = passing_more g s n h.passing;
-      long = l ∙ h.long;
-      place = omega (arith, h.place, length-append h.es (entry p none ∷ []));
-      bytes =
-          e ∙ ap₂ (λ (m : List ℕ) (k : ℕ). over m k (ref_bytes 2 (p, 65535))) h.bytes here
-          ∙ over_append b₀ at (row_bytes 2 (map ref_of h.es)) (ref_bytes 2 (p, 65535))
-          ∙ ap (over b₀ at)
-          (sym (ap (row_bytes 2) (map-append ref_of h.es (entry p none ∷ [])) ∙ row_bytes_append 2 (map ref_of h.es) ((p, 65535) ∷ []) ∙ ap (λ (m : List ℕ). row_bytes 2 (map ref_of h.es) ++ m) (append-nil (ref_bytes 2 (p, 65535)))));
-    }
+  pub marking_more : {x : Ref} {zs : List Ref} → ys ≡ x ∷ zs → {b₁ : List ℕ} → length b₁ ≡ length b → b₁ ≡ over b next (ref_bytes 2 x) → Marking b₀ at es b₁ (next + 3) zs
+  unfolding row_bytes
+  marking_more {x} {zs} e {b₁} l f =
+      let here : next ≡ at + length (row_bytes 2 h.xs) = omega (arith, h.place, length_row_bytes 2 h.xs) in
+      record {
+        xs = h.xs ++ x ∷ [];
+        left = append_assoc h.xs (x ∷ []) zs ∙ ap (λ (z : List Ref). h.xs ++ z) (sym e) ∙ h.left;
+        long = l ∙ h.long;
+        place = omega (arith, h.place, length-append h.xs (x ∷ []));
+        bytes =
+            f ∙ ap₂ (λ (m : List ℕ) (k : ℕ). over m k (ref_bytes 2 x)) h.bytes here
+            ∙ over_append b₀ at (row_bytes 2 h.xs) (ref_bytes 2 x)
+            ∙ ap (over b₀ at) (sym (row_bytes_append 2 h.xs (x ∷ []) ∙ ap (λ (m : List ℕ). row_bytes 2 h.xs ++ m) (append-nil (ref_bytes 2 x))));
+      }
 
-pub marking_all : {b₀ : List ℕ} {at w key low high : ℕ} {b : List ℕ} {next p : ℕ} → high ≤ p → Marking b₀ at w key low high b next p
-    → (b ≡ over b₀ at (row_bytes 2 (map ref_of (dummies low high (positions 0 (bits w key)) [])))) × (next ≡ at + 3 * length (dummies low high (positions 0 (bits w key)) []))
-marking_all g h = let e = passing_all g h.passing in (rw (← e) h.bytes, rw (← e) h.place)
+  pub marking_all : ys ≡ [] → (b ≡ over b₀ at (row_bytes 2 (map ref_of es))) × (next ≡ at + 3 * length es)
+  marking_all e =
+      let whole : h.xs ≡ map ref_of es = sym (append-nil h.xs) ∙ ap (λ (z : List Ref). h.xs ++ z) (sym e) ∙ h.left in
+      (rw (← whole) h.bytes, omega (arith, h.place, ap length whole, length-map es ref_of))
 
 -- ---- in a row
 

@@ -10,7 +10,9 @@ use Rattle.page_tree.specs.Row.{row_of}
 use Rattle.page_tree.specs.declared.Row.{Row}
 use Rattle.index_table.specs.Layout.{Ref}
 use Rattle.index_table.specs.Pages.{record_of, leaf_of}
+use Rattle.table_search.specs.Places.{left_from}
 use Rattle.table_search.specs.declared.Leaf.{Leaf}
+use Rattle.new_entries.specs.declared.dummy.Dummies.{Dummies}
 use Rattle.new_entries.specs.declared.entries.News.{News}
 use Rattle.new_entries.specs.declared.entries.News.TheVariants.{Alone, Beside}
 
@@ -32,6 +34,14 @@ entries_for w key (Beside low first last n) =
 -- and as they are stored.
 abbrev pub refs_for : ℕ → ℕ → News → List Ref
 refs_for w key n = map ref_of (entries_for w key n)
+
+-- The dummies that an iterator has left, as they are stored.
+abbrev pub dummies_left : Dummies → List Ref
+dummies_left s = map ref_of (dummies 0 s.high (left_from s.w s.key s.position) [])
+
+-- A dummy, as it is stored.
+abbrev pub dummy_at : ℕ → Ref
+dummy_at d = (d, 65535)
 
 -- The one-bits of a key between two depths are asked for.
 pub record DummiesPre (w key low high : ℕ) : Type 0 where

@@ -8,6 +8,7 @@ ghost use Rattle.byte_moves.specs.Over.{over};
 ghost use Rattle.index_table.specs.Layout.{row_bytes};
 ghost use Rattle.new_entries.specs.Entries.{count_in, DummiesPre, ref_of, refs_for, Newly};
 
+use crate::dummy::Dummies;
 use crate::entries::News;
 use index_write::write::write_entry;
 use page_tree::Row;
@@ -18,11 +19,9 @@ fn write_dummies(index: &mut [u8], at: usize, w: u64, key: u64, low: u64, high: 
     ensures { (index.new ≡ over index.old at (row_bytes 2 (map ref_of (dummies low high (positions 0 (bits w key)) [])))) × (result ≡ at + 3 * length (dummies low high (positions 0 (bits w key)) [])) }
 {
     let mut next = at;
-    let mut position = table_search::next_position(w, key, low);
-    while position < high {
-        write_entry(index, next, position as u8, 65535);
+    for depth in Dummies::between(w, key, low, high) {
+        write_entry(index, next, depth, 65535);
         next += 3;
-        position = table_search::next_position(w, key, position);
     }
     next
 }

@@ -15,7 +15,7 @@ use Rattle.table_search.specs.declared.Leaf.{Leaf}
 use Rattle.table_find.specs.Places.{FoundLeaf}
 use Rattle.table_find.proofs.FoundLeaves.{live_inside}
 use Rattle.table_change.specs.Changes.{is_some, is_held, on_row_of}
-use Rattle.new_entries.specs.Entries.{refs_for, FoundPre, NewEntries}
+use Rattle.new_entries.specs.Entries.{count_in, refs_for, FoundPre, NewEntries}
 use Rattle.new_entries.specs.declared.entries.News.{News}
 use Rattle.table_change.specs.News.{key_is, FreeRecord, NewKey}
 use Rattle.index_change.specs.Repaging.{late_row_with, OnPagesPre}
@@ -66,11 +66,11 @@ module _ {index keys used : List ℕ} {key r : ℕ} {news : Row} (h : NewKey ind
   late_row_is q = on_late h.free_record (ap is_some h.absent) news h.news_for ∙ sym q
 
 -- The same key with its entries in a row.
-pub row_key : {index keys used : List ℕ} {key r : ℕ} {leaf : Leaf} {n : News} {w : ℕ} {row : Row} → FoundKey index keys used key r leaf n → w ≡ width_of index → Holds row n.count (refs_for w key n)
+pub row_key : {index keys used : List ℕ} {key r : ℕ} {leaf : Leaf} {n : News} {w : ℕ} {row : Row} → FoundKey index keys used key r leaf n → w ≡ width_of index → Holds row (count_in n) (refs_for w key n)
     → NewKey index keys used key r row
 row_key {index} {key = key} {n = n} {row = row} h width g =
     record {
       free_record = h.new_key.free_record;
       absent = h.new_key.absent;
-      news_for = news_in n h.new_key.news_for (sym (news_long h.newly)) (subst (λ (k : ℕ). Holds row n.count (refs_for k key n)) width g);
+      news_for = news_in n h.new_key.news_for (sym (news_long h.newly)) (subst (λ (k : ℕ). Holds row (count_in n) (refs_for k key n)) width g);
     }

@@ -26,7 +26,7 @@ use Rattle.table_find.specs.Places.{FoundLeaf}
 use Rattle.table_insert.proofs.Puttings.{root_descend}
 use Rattle.table_insert.proofs.FittingRows.{opened, fitting_low, fitting_put}
 use Rattle.new_entries.specs.declared.entries.News.{News}
-use Rattle.new_entries.specs.Entries.{refs_for, Newly}
+use Rattle.new_entries.specs.Entries.{count_in, refs_for, Newly}
 use Rattle.new_entries.proofs.NewLeaves.{news_long}
 use Rattle.index_change.specs.Repaging.{Roomy, OnPages, room_for, OpenPre, opened_with}
 use Rattle.index_change.proofs.Repaged.{putting, pages_put}
@@ -47,7 +47,7 @@ module _ {index keys used : List ℕ} {key r : ℕ} (h : FreeRecord index keys u
   found_within = within_table (layout_of (entries_of index)) (pages_of index) leaf.page.0 index (omega (arith, (tree_table h.sound).table)) found_page.0.number
 
 -- What the test of the room asks.
-pub room_pre : {index keys used : List ℕ} {key r : ℕ} {leaf : Leaf} {n : News} → FoundKey index keys used key r leaf n → (16 ≤ length index) × Within (layout_of (entries_of index)) index leaf.page.0 × (n.count ≤ 319)
+pub room_pre : {index keys used : List ℕ} {key r : ℕ} {leaf : Leaf} {n : News} → FoundKey index keys used key r leaf n → (16 ≤ length index) × Within (layout_of (entries_of index)) index leaf.page.0 × (count_in n ≤ 319)
 room_pre h =
     let free = h.new_key.free_record in
     (header_long free.sound, found_within free h.found, omega (arith, h.new_key.news_for.few, free.sound.limits.width_high, news_long h.newly))
@@ -57,7 +57,7 @@ pub newly_at : {index keys used : List ℕ} {key r : ℕ} {leaf : Leaf} {n : New
 newly_at {key = key} {n = n} h width = subst (λ (k : ℕ). Newly k key n) (sym width) h.newly
 
 -- Where the test says so, the entries fit.
-pub fitting_key : {index keys used : List ℕ} {key r : ℕ} {leaf : Leaf} {n : News} {t : Bool} → FoundKey index keys used key r leaf n → t ≡ room_for index leaf.page.0 n.count → t ≡ true
+pub fitting_key : {index keys used : List ℕ} {key r : ℕ} {leaf : Leaf} {n : News} {t : Bool} → FoundKey index keys used key r leaf n → t ≡ room_for index leaf.page.0 (count_in n) → t ≡ true
     → FittingKey index keys used key r leaf n
 fitting_key h test said = record { found_key = h; room = sym test ∙ said }
 
@@ -80,11 +80,11 @@ module _ {index keys used : List ℕ} {key r : ℕ} {leaf : Leaf} {n : News} (h 
   tree : TreeTable index e (pages_of index) (root_level index) (root_of index) (width_of index)
   tree = tree_table free.sound
 
-  count_is : news.count ≡ n.count
+  count_is : news.count ≡ count_in n
   count_is = news_long h.found_key.newly
 
   fits : length (pages_at (layout_of e) index leaf.page.0) + news.count ≤ suc e
-  fits = omega (arith, count_is, leb-true (length (pages_at (layout_of e) index leaf.page.0) + n.count) (suc e) h.room)
+  fits = omega (arith, count_is, leb-true (length (pages_at (layout_of e) index leaf.page.0) + count_in n) (suc e) h.room)
 
   -- What the change of the page asks.
   pub open_pre : OpenPre index leaf.page.0 leaf.at key n

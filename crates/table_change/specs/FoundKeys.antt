@@ -10,7 +10,7 @@ use Rattle.index_write.specs.Storing.{row_with}
 use Rattle.table_search.specs.declared.Leaf.{Leaf}
 use Rattle.table_find.specs.Places.{FoundLeaf}
 use Rattle.new_entries.specs.declared.entries.News.{News}
-use Rattle.new_entries.specs.Entries.{refs_for, Newly}
+use Rattle.new_entries.specs.Entries.{count_in, refs_for, Newly}
 use Rattle.index_change.specs.Repaging.{room_for}
 use Rattle.table_change.specs.News.{NewKey}
 
@@ -34,4 +34,4 @@ pub record FoundKey (index keys used : List ℕ) (key r : ℕ) (leaf : Leaf) (n 
 -- They fit into the page found.
 pub record FittingKey (index keys used : List ℕ) (key r : ℕ) (leaf : Leaf) (n : News) : Type 0 where
   pub found_key : FoundKey index keys used key r leaf n
-  pub room : room_for index leaf.page.0 n.count ≡ true
+  pub room : room_for index leaf.page.0 (count_in n) ≡ true

@@ -80,7 +80,7 @@ fn place_on(
     requires { FoundKey index.old keys.old used.old key «record» leaf news }
     ensures { OnChanges index.old keys.old used.old key «record» index.new keys.new used.new result }
 {
-    if index_change::has_room(index, leaf.page, news.count) {
+    if index_change::has_room(index, leaf.page, news.count()) {
         open_on(index, keys, used, key, record, leaf, news);
         return Answer::plain(0);
     }

@@ -6,13 +6,13 @@ use Rattle.table_change.proofs.Opening.{room_pre, newly_at, fitting_key, opens_a
 use Rattle.table_change.proofs.on.place_on.Goals as goal
 
 pub has_room-requires : goal.has_room-requires
-has_room-requires c = room_pre c.requires
+has_room-requires c = rw c.count.ensures (room_pre c.requires)
 
 pub open_on-requires : goal.open_on-requires
-open_on-requires c = fitting_key c.requires c.has_room.ensures c.if-has_room.true
+open_on-requires c = fitting_key c.requires (rw c.count.ensures at c.has_room.ensures) c.if-has_room.true
 
 pub returns-then-has_room : goal.returns-then-has_room
-returns-then-has_room c = on_accepted (opens_accepted (fitting_key c.requires c.has_room.ensures c.if-has_room.true)) _ c.plain.ensures c.open_on.ensures
+returns-then-has_room c = on_accepted (opens_accepted (fitting_key c.requires (rw c.count.ensures at c.has_room.ensures) c.if-has_room.true)) _ c.plain.ensures c.open_on.ensures
 
 pub width-w-requires : goal.width-w-requires
 width-w-requires c = header_long c.requires.new_key.free_record.sound
