@@ -17,9 +17,9 @@ use Rattle.index_table.specs.Layout.{Layout, layout_of, Ref, Within}
 use Rattle.index_table.specs.Pages.{Pages, pages_at, numbered_at, met, met_all}
 use Rattle.index_table.proofs.Frames.{UnchangedRow}
 use Rattle.index_write.specs.Standing.{Owned}
-use Rattle.entry_delete.specs.declared.Remnant.{Remnant}
-use Rattle.entry_delete.specs.Entries.{parts}
-use Rattle.tree_delete.specs.declared.rows.Slot.{Slot}
+use Rattle.std.specs.Prelude.{Option}
+use Rattle.page_tree.specs.declared.Entry.{Entry}
+use Rattle.entry_delete.specs.Entries.{entries_of}
 use Rattle.tree_delete.specs.Keeping.{numbers_at, Linked, Kept}
 use Rattle.tree_delete.specs.Rows.{around, PutPost, SettlePre, SettlePost, entry_for}
 use Rattle.tree_delete.specs.Unwinding.{BackPre, Done}
@@ -101,8 +101,8 @@ module _ {e P n : ℕ} {b : List ℕ} {x : Ref} {j : ℕ} (pre : JoinPre e P n b
   join_put h small = (omega arith, omega (arith, h.count, inside), omega (arith, h.count, back.linked.0.few))
 
   -- its entries before j and those from the new one on can be joined;
-  pub join_joined : {loaded : Row} {left : Remnant} {slot : Slot} → Holds loaded (length (row_below e b x)) (row_below e b x) → e < 256
-      → PutPost loaded (j + 2) left slot → (j ≤ slot.at) × (slot.at ≤ slot.row.count) × (slot.row.count ≤ 319)
+  pub join_joined : {loaded row' : Row} {left : Option Entry} {at : ℕ} → Holds loaded (length (row_below e b x)) (row_below e b x) → e < 256
+      → PutPost loaded (j + 2) left row' at → (j ≤ at) × (at ≤ row'.count) × (row'.count ≤ 319)
   join_joined h small put =
       (omega (arith, put.least), omega (arith, put.most, put.count, h.count, inside), omega (arith, put.count, h.count, back.linked.0.few))
 
@@ -166,8 +166,8 @@ module _ {e P n : ℕ} {b : List ℕ} {x : Ref} {j : ℕ} (pre : JoinPre e P n b
 
   -- ---- the parent's row
 
-  module _ (loaded : Row) (h : Holds loaded (length row) row) (left : Remnant) (stays : parts left ≡ joined ∷ []) (slot : Slot) (put : PutPost loaded (j + 2) left slot)
-      (all : Row) (g : Holds all (j + (slot.row.count - slot.at)) (around slot.row j slot.at)) where
+  module _ (loaded : Row) (h : Holds loaded (length row) row) (left : Option Entry) (stays : entries_of left ≡ joined ∷ []) (row' : Row) (at' : ℕ)
+      (put : PutPost loaded (j + 2) left row' at') (all : Row) (g : Holds all (j + (row'.count - at')) (around row' j at')) where
     two : j + 2 ≡ suc (suc j)
     two = omega arith
 
@@ -189,20 +189,20 @@ module _ {e P n : ℕ} {b : List ℕ} {x : Ref} {j : ℕ} (pre : JoinPre e P n b
       kept_now = rw (at_table, row_is) row_kept
 
       -- The row can be settled,
-      pub join_settle : SettlePre e b' x.1 (record { row = all; state = Idle })
+      pub join_settle : SettlePre e b' x.1 all
       join_settle = record {
         within = omega (arith, kept_now.long, page_within back);
         few = count_few;
         fitting = linked_fits e P (suc n) b' (row_of all) back.paged.high kept_now.linked;
       }
 
-      module _ (b'' : List ℕ) (was : Remnant) (s : SettlePost e (n + 1) b' x.1 (record { row = all; state = Idle }) b'' was) where
-        done : Done e P (suc (suc n)) b x (kept_under x.1 numbers, Idle) b'' was
+      module _ (b'' : List ℕ) (was : Option Entry) (s : SettlePost e (n + 1) b' x.1 all b'' was) where
+        done : Done e P (suc (suc n)) b x (kept_under x.1 numbers, Idle) b'' (record { left = was; state = Idle })
         done =
-            up_done back (numbers, Idle) b' (record { row = all; state = Idle }) kept_now
+            up_done back (numbers, Idle) b' all Idle kept_now
             (rw (at_table, row_is) row_numbers) refl count_few b'' was (rw (add-one n) at s)
 
-        entry_is : parts was ≡ x ∷ []
+        entry_is : entries_of was ≡ x ∷ []
         entry_is = s.entries ∙ ap (entry_for x.1) row_is ∙ entry_some x.1 x.0 now some_now (sym last_same)
 
         number_is : numbered_at 65535 (suc (suc n)) (pages_at L b'') x ≡ (x.1, numbers)
