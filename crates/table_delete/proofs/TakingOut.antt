@@ -49,10 +49,6 @@ module _ {b : List ℕ} {e P level root w key : ℕ} (pre : TakePre b e P level 
   abbrev L : Layout
   L = layout_of e
 
-  -- The rank of the root's entry is a byte.
-  pub take_level : level < 255
-  take_level = omega (arith, pre.tree.pages.level_high)
-
   -- The root's entry is one to remove from.
   pub take_remove : Bytes b → (position p : ℕ) → NextPosition w key 0 position → p ≡ root → RemovePre e P (level + 1) b (0, p) w key position
   take_remove bytes position p next z = rw (z, add-one level) (record {

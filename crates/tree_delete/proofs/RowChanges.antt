@@ -13,8 +13,7 @@ use Rattle.page_tree.specs.Row.{depth_of, row_of, part_of}
 use Rattle.page_tree.proofs.RowLaws.{Full, length_row, stored_in}
 use Rattle.page_tree.proofs.ListLaws.{drop_set}
 use Rattle.index_table.specs.Layout.{layout_of, Ref, row_page, store}
-use Rattle.index_write.specs.Storing.{Storable}
-use Rattle.tree_delete.specs.Rows.{PutPost, settled_page, entry_for, SettlePre, SettlePost}
+use Rattle.tree_delete.specs.Rows.{PutPost, settled_page, entry_for, SettlePost}
 
 -- ---- put
 
@@ -56,10 +55,6 @@ last_at τ (suc n) (x ∷ l) h = last_at (depth_of x) n l (omega arith)
 -- The whole row.
 back_part : (row : Row) → part_of row 0 row.count ≡ row_of row
 back_part row = refl
-
--- The row can be stored.
-pub settle_storable : (e : ℕ) (b : List ℕ) (p : ℕ) (row : Row) → e ≤ 255 → SettlePre e b p row → Storable e b p row 0 row.count
-settle_storable e b p row l h = record { within = h.within; order = omega arith; places = omega (arith, h.few); few = omega (arith, h.few); fitting = rw (back_part row) h.fitting }
 
 -- Something is left: the page is stored.
 pub settle_some : (e level : ℕ) (b : List ℕ) (p : ℕ) (row : Row) (b' : List ℕ) (x : Entry) → (row.count ≡ 0 → ⊥) → length (row_of row) ≡ row.count

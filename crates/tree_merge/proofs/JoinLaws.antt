@@ -81,11 +81,7 @@ module _ {e P n : ℕ} {b : List ℕ} {x : Ref} {j : ℕ} (pre : JoinPre e P n b
   right_linked : Linked L P (suc n) b v
   right_linked = entry_linked back (suc j) inside
 
-  -- The page can be loaded,
-  pub join_load : Within (layout_of e) b x.1 × (length (row_below e b x) ≤ e)
-  join_load = (page_within back, back.linked.0.few)
-
-  -- and the two pages can be made one.
+  -- The two pages can be made one.
   pub join_gather : (left right : ℕ) → left ≡ u.1 → right ≡ v.1 → GatherPre e b left right
   join_gather left right y z =
       rw (y, z)
@@ -95,18 +91,7 @@ module _ {e P n : ℕ} {b : List ℕ} {x : Ref} {j : ℕ} (pre : JoinPre e P n b
   pub join_table : {b' : List ℕ} {left right : ℕ} → b' ≡ gathered e n b left right → left ≡ u.1 → right ≡ v.1 → b' ≡ gathered e n b u.1 v.1
   join_table h y z = h ∙ ap₂ (λ (l r : ℕ). gathered e n b l r) y z
 
-  -- The page's row, once loaded, has the two places before j + 2;
-  pub join_put : {loaded : Row} → Holds loaded (length (row_below e b x)) (row_below e b x) → e < 256
-      → (1 ≤ j + 2) × (j + 2 ≤ loaded.count) × (loaded.count ≤ 319)
-  join_put h small = (omega arith, omega (arith, h.count, inside), omega (arith, h.count, back.linked.0.few))
-
-  -- its entries before j and those from the new one on can be joined;
-  pub join_joined : {loaded row' : Row} {left : Option Entry} {at : ℕ} → Holds loaded (length (row_below e b x)) (row_below e b x) → e < 256
-      → PutPost loaded (j + 2) left row' at → (j ≤ at) × (at ≤ row'.count) × (row'.count ≤ 319)
-  join_joined h small put =
-      (omega (arith, put.least), omega (arith, put.most, put.count, h.count, inside), omega (arith, put.count, h.count, back.linked.0.few))
-
-  -- and the new entry is that of the joined page.
+  -- The new entry is that of the joined page.
   pub join_entry : {d p : ℕ} → d ≡ v.0 → p ≡ u.1 → ◌≡◌ {A = List Ref} ((d, p) ∷ []) ((v.0, u.1) ∷ [])
   join_entry y z = ap₂ {C = List Ref} (λ (d p : ℕ). (d, p) ∷ []) y z
 

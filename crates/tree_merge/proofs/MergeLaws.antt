@@ -104,13 +104,9 @@ pub merge_above : {e P n : ℕ} {b : List ℕ} {x : Ref} {w key position lowest 
 merge_above h l z = omega (arith, h.covered.some, l, z)
 
 module _ {e P n : ℕ} {b : List ℕ} {x : Ref} {w key position : ℕ} (h : RemovePre e P (suc n) b x w key position) where
-  -- The page can be searched,
+  -- The page can be searched.
   pub merge_seek : SeekPre b e x.1 w key position
   merge_seek = locate_seek h
-
-  -- and read at the place found.
-  pub merge_read : {τ : ℕ} (s : Spot) → Stopped w key position τ (pages_at (layout_of e) b x.1) s → Within (layout_of e) b x.1 × (s.at < e)
-  merge_read s a = (descend_within (remove_descend h), descend_inside (remove_descend h) s a)
 
 -- ---- a page of level n + 1
 
