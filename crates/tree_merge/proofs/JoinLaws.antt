@@ -13,7 +13,7 @@ use Rattle.page_tree.specs.declared.Unwind.TheVariants.{Idle}
 use Rattle.page_tree.specs.Numbered.{Numbered, join_numbered, kept_under}
 use Rattle.page_tree.proofs.ListLaws.{sum_append}
 use Rattle.page_tree.proofs.ClosedRows.{last_depth_append}
-use Rattle.index_table.specs.Layout.{Layout, layout_of, Ref, Within}
+use Rattle.index_table.specs.Layout.{Layout, layout_of, Ref}
 use Rattle.index_table.specs.Pages.{Pages, pages_at, numbered_at, met, met_all}
 use Rattle.index_table.proofs.Frames.{UnchangedRow}
 use Rattle.index_write.specs.Standing.{Owned}

@@ -12,20 +12,19 @@ use Rattle.page_tree.specs.Merging.{sparse, Offered, offer, accept, settle, merg
 use Rattle.page_tree.specs.Numbered.{Numbered, numbered_depth, join_numbered, merge_numbered}
 use Rattle.page_tree.proofs.WalkPlaces.{find_at}
 use Rattle.page_tree.proofs.MergingPlaces.{placed, merge_in_at}
-use Rattle.index_table.specs.Layout.{Layout, layout_of, Ref, Within, page_bytes, ref_at}
+use Rattle.index_table.specs.Layout.{Layout, layout_of, Ref, page_bytes, ref_at}
 use Rattle.index_table.specs.Pages.{Pages, pages_at, numbered_at, met}
 use Rattle.index_write.specs.Standing.{Owned}
 use Rattle.table_search.specs.declared.Spot.{Spot}
 use Rattle.table_search.specs.Places.{left_from, SeekPre, Stopped}
 use Rattle.table_search.proofs.Stops.{read_entry}
-use Rattle.table_search.proofs.Descents.{descend_within, descend_inside}
 use Rattle.tree_delete.specs.Keeping.{numbers_at, Kept}
 use Rattle.tree_delete.specs.Removing.{RemovePre}
 use Rattle.tree_delete.proofs.Frames.{kept_one, kept_self, kept_then}
 use Rattle.tree_delete.proofs.SweepTurns.{paged_then}
 use Rattle.tree_delete.proofs.FoundPlaces.{found_down, found_left, found_passes, found_stops, found_numbers}
 use Rattle.tree_delete.proofs.EntryStays.{row_same, entry_kept, front_stays, rest_stays}
-use Rattle.tree_delete.proofs.Removals.{remove_descend, locate_seek}
+use Rattle.tree_delete.proofs.Removals.{locate_seek}
 use Rattle.tree_merge.specs.Merges.{PlacePre, beside_at, BesidePost, missed, none_missed, Covered, MergePre, Merged}
 
 -- ---- a row whose thing found is not sparse, and stays below

@@ -9,7 +9,7 @@ use Rattle.index_table.specs.Layout.{layout_of, Ref, Within, page_bytes, count_o
 use Rattle.index_table.specs.Pages.{pages_at}
 use Rattle.table_search.specs.Places.{sparse_at}
 use Rattle.tree_merge.specs.Merges.{PairPre, JoinPost, PlacePre, SparsePre, LeftShut, LeftPost, RightPre, BesidePost}
-use Rattle.tree_merge.proofs.EntryReads.{row_below, entry_below, read_below, sparse_below, joinable_below, count_read, page_within, entry_few, pointer_read, child_within}
+use Rattle.tree_merge.proofs.EntryReads.{row_below, entry_below, read_below, sparse_below, joinable_below, count_read, pointer_read, child_within}
 use Rattle.tree_merge.proofs.NeighbourLaws.{beside_calm, beside_left, beside_last, beside_none, beside_right}
 
 -- ---- whether the page is sparse
