@@ -1,6 +1,6 @@
 -- Removal where one page of level 0 changes alone: the root and its level stay until pages are merged. Assumes nothing.
 use mathlib.Core.Path.{◌≡◌, refl, sym, ap, subst, ◌∙◌}
-use mathlib.Core.Bool.{true, false}
+use mathlib.Core.Bool.{false}
 use mathlib.Core.List.{List}
 use Prim.Native.Nat.{ℕ, zero, suc, ◌+◌, ◌≤◌, ◌<◌}
 use native.Mathlib.Omega.{arith}
@@ -21,6 +21,7 @@ use Rattle.page_change.proofs.WholePages.{cleared_whole}
 use Rattle.table_search.specs.declared.Leaf.{Leaf}
 use Rattle.table_search.specs.Places.{left_from, NextPosition, Way}
 use Rattle.page_delete.specs.OnePage.{NearPre, StruckNear}
+use Rattle.std.specs.Prelude.{Some}
 use Rattle.entry_delete.specs.declared.Remnant.{Remnant}
 use Rattle.tree_delete.specs.Removing.{RemovePre, RemovePost}
 use Rattle.tree_merge.specs.Merges.{none_missed, Covered}
@@ -65,7 +66,7 @@ module _ {b : List ℕ} {e P level : ℕ} (root : PageNo) {w key first : ℕ} (p
     (quiet : Quiet e P (suc level) b (root_ref root.0) (left_from w key first) 0 0 b') where
   -- What is left of the root's entry.
   abbrev left : Remnant
-  left = record { stays = true; depth = 0; pointer = root.0; state = quiet.asked }
+  left = record { left = Some (record { depth = 0; pointer = root.0 }); state = quiet.asked }
 
   removed : RemovePost e P (level + 1) b (0, root.0) w key first 0 0 b' left
   removed = rw (add-one level) (record {
@@ -76,11 +77,11 @@ module _ {b : List ℕ} {e P level : ℕ} (root : PageNo) {w key first : ℕ} (p
 
   -- Pages can be merged,
   pub quiet_finish : (lowest : ℕ) → Covered e level b' (root_ref root.0) (positions 0 (bits w key)) lowest → FinishPre e P level b' root.0 w key lowest
-  quiet_finish lowest c = take_finish pre begins refl removed root.0 refl lowest c
+  quiet_finish lowest c = take_finish pre begins refl removed refl root.0 refl lowest c
 
   -- and the tree is without the entry found.
   pub quiet_taken : (b₂ : List ℕ) (r : Root) → FinishPost e P level b' root.0 w key b₂ r → TakePost b e P level root.0 w key b₂ r
-  quiet_taken b₂ r g = take_post pre begins refl removed root.0 refl b₂ r g
+  quiet_taken b₂ r g = take_post pre begins refl removed refl root.0 refl b₂ r g
 
 -- ---- the page of level 0 changed alone, and is the one that covers the key
 

@@ -1,6 +1,5 @@
 -- Removal from the root's entry, then what ends an off. Assumes nothing.
 use mathlib.Core.Path.{◌≡◌, refl, sym, ap, ◌∙◌, subst}
-use mathlib.Core.Bool.{Bool, true, false}
 use mathlib.Core.List.{List, [], ◌∷◌, map}
 use Prim.Native.Nat.{ℕ, suc, ◌+◌, ◌<◌}
 use native.Mathlib.Omega.{arith}
@@ -25,6 +24,9 @@ use Rattle.index_table.proofs.NumberLaws.{Bytes}
 use Rattle.index_table.proofs.NumberedPages.{numbered_aside, numbereds_aside}
 use Rattle.index_table.proofs.SoundNodes.{sound_tree, tree_depth}
 use Rattle.table_search.specs.Places.{NextPosition}
+use borrow.Author.Rules.{rules}
+use Rattle.std.specs.Prelude.{Option, Some, None, IsSome}
+use Rattle.page_tree.specs.declared.Entry.{Entry as Stored}
 use Rattle.entry_delete.specs.declared.Remnant.{Remnant}
 use Rattle.tree_delete.specs.Keeping.{numbers_at, Kept}
 use Rattle.entry_delete.specs.Entries.{parts}
@@ -46,10 +48,6 @@ head_of d (x ∷ xs) = x
 module _ {b : List ℕ} {e P level root w key : ℕ} (pre : TakePre b e P level root w key) where
   abbrev L : Layout
   L = layout_of e
-
-  -- The rank of the root's entry is a byte.
-  pub take_level : level < 255
-  take_level = omega (arith, pre.tree.pages.level_high)
 
   -- The root's entry is one to remove from.
   pub take_remove : Bytes b → (position p : ℕ) → NextPosition w key 0 position → p ≡ root → RemovePre e P (level + 1) b (0, p) w key position
@@ -88,47 +86,53 @@ module _ {b : List ℕ} {e P level root w key : ℕ} (pre : TakePre b e P level 
         (root_left e (positions 0 (bits w key)) (tree_at 65535 (pages_at L b) level root) (sound_tree 65535 L P b level root pre.tree.pages) (positions_rise 0 (bits w key))
         (tree_depth 65535 L P b level root pre.tree.pages) (positions_beyond 0 0 (bits w key) (omega arith)) pre.beside)
 
-    -- Something is left.
-    stands : parts x ≡ (x.depth, x.pointer) ∷ []
-    stands = go x.stays refl
+    -- Something is left:
+    pub take_left : IsSome x.left
+    take_left = go x.left refl
       where
-        go : (t : Bool) → x.stays ≡ t → parts x ≡ (x.depth, x.pointer) ∷ []
-        go true s = rw s refl
-        go false s =
+        go : (o : Option Stored) → x.left ≡ o → IsSome o
+        go (Some y) z = search rules
+        go None z =
             absurd
-            (let k : length (map (node_at 65535 (suc level) (pages_at L b₁)) (parts x)) ≡ 0 = rw s refl in
+            (let k : length (map (node_at 65535 (suc level) (pages_at L b₁)) (parts x)) ≡ 0 = rw z refl in
             let m : length (map (node_at 65535 (suc level) (pages_at L b₁)) (parts x)) ≡ 1 = ap length nodes_left.is in omega (arith, k, m))
 
-    root_is : node_at 65535 (suc level) (pages_at L b₁) (root_ref x.pointer) ≡ nodes_left.root
+  -- the root's entry, with its page.
+  module _ {position p : ℕ} (next : NextPosition w key 0 position) (z : p ≡ root) {b₁ : List ℕ} {x : Remnant} (d : RemovePost e P (level + 1) b (0, p) w key position 0 0 b₁ x)
+      {y : Stored} (some : x.left ≡ Some y) where
+    stands : parts x ≡ (y.depth, y.pointer) ∷ []
+    stands = rw some refl
+
+    root_is : node_at 65535 (suc level) (pages_at L b₁) (root_ref y.pointer) ≡ (nodes_left next z d).root
     unfolding node_at
-    root_is = ap (head_of nodes_left.root) (sym (ap (map (node_at 65535 (suc level) (pages_at L b₁))) stands) ∙ nodes_left.is)
+    root_is = ap (head_of (nodes_left next z d).root) (sym (ap (map (node_at 65535 (suc level) (pages_at L b₁))) stands) ∙ (nodes_left next z d).is)
 
     -- The root that is left is sound, and has the depth 0.
-    below : (x.depth ≡ 0) × SoundBelow L P (suc level) b₁ (root_ref x.pointer)
+    below : (y.depth ≡ 0) × SoundBelow L P (suc level) b₁ (root_ref y.pointer)
     below =
-        let k : Kept L P (suc level) b (met (suc level) (pages_at L b) (root_ref root)) b₁ ((x.depth, x.pointer) ∷ []) = rw stands at done.kept in
-        root_below e P b₁ level x.depth x.pointer k.linked.0 (rw root_is nodes_left.sound) (ap (depth (suc level)) root_is ∙ nodes_left.shallow)
+        let k : Kept L P (suc level) b (met (suc level) (pages_at L b) (root_ref root)) b₁ ((y.depth, y.pointer) ∷ []) = rw stands at (done next z d).kept in
+        root_below e P b₁ level y.depth y.pointer k.linked.0 (rw root_is (nodes_left next z d).sound) (ap (depth (suc level)) root_is ∙ (nodes_left next z d).shallow)
 
-    stands_root : parts x ≡ root_ref x.pointer ∷ []
-    stands_root = stands ∙ ap (λ (d : ℕ). (d, x.pointer) ∷ []) below.0
+    stands_root : parts x ≡ root_ref y.pointer ∷ []
+    stands_root = stands ∙ ap (λ (d : ℕ). (d, y.pointer) ∷ []) below.0
 
-    kept : Kept L P (suc level) b (met (suc level) (pages_at L b) (root_ref root)) b₁ (root_ref x.pointer ∷ [])
-    kept = rw stands_root at done.kept
+    kept : Kept L P (suc level) b (met (suc level) (pages_at L b) (root_ref root)) b₁ (root_ref y.pointer ∷ [])
+    kept = rw stands_root at (done next z d).kept
 
     -- The page that is left has a number,
-    pub take_fits : x.pointer < 65536
+    pub take_fits : y.pointer < 65536
     take_fits = omega (arith, kept.linked.0.0.number, pre.tree.pages_high)
 
     -- On level 0 stands what stood there without the key.
-    later_is : leaves_of (off_tree w e key (tree_at 65535 (pages_at L b) level root)) ≡ leaves_of (tree_at 65535 (pages_at L b₁) level x.pointer)
+    later_is : leaves_of (off_tree w e key (tree_at 65535 (pages_at L b) level root)) ≡ leaves_of (tree_at 65535 (pages_at L b₁) level y.pointer)
     later_is =
-        ap (λ (l : List (Node (suc level))). leaves_of (rooted level (map (merge_page e level (positions 0 (bits w key))) l))) (sym left_is ∙ nodes_left.is)
-        ∙ lower_leaves level (merge_page e level (positions 0 (bits w key)) nodes_left.root) ∙ merge_page_leaves e level (positions 0 (bits w key)) nodes_left.root
+        ap (λ (l : List (Node (suc level))). leaves_of (rooted level (map (merge_page e level (positions 0 (bits w key))) l))) (sym (left_is next z d) ∙ (nodes_left next z d).is)
+        ∙ lower_leaves level (merge_page e level (positions 0 (bits w key)) (nodes_left next z d).root) ∙ merge_page_leaves e level (positions 0 (bits w key)) (nodes_left next z d).root
         ∙ ap (leaves (suc level)) (sym root_is)
 
     -- and below it pages can be merged.
-    pub take_finish : (page : ℕ) → page ≡ x.pointer → (lowest : ℕ) → Covered e level b₁ (root_ref page) (positions 0 (bits w key)) lowest → FinishPre e P level b₁ page w key lowest
-    take_finish page y lowest c = rw y (record {
+    pub take_finish : (page : ℕ) → page ≡ y.pointer → (lowest : ℕ) → Covered e level b₁ (root_ref page) (positions 0 (bits w key)) lowest → FinishPre e P level b₁ page w key lowest
+    take_finish page u lowest c = rw u (record {
       paged = paged_then {b = b} kept.long (record { table = pre.tree.table; high = pre.tree.pages_high });
       linked = kept.linked.0;
       below = below.1;
@@ -138,19 +142,19 @@ module _ {b : List ℕ} {e P level root w key : ℕ} (pre : TakePre b e P level 
       depths = subst (LeafDepths w) later_is pre.later;
       width = pre.tree.width;
       narrow = pre.narrow;
-      covered = rw y at c;
+      covered = rw u at c;
     })
 
     -- ---- and at the end
 
-    rooted_is : rooted_numbered level (merge_numbered e level (positions 0 (bits w key)) (numbered_at 65535 (suc level) (pages_at L b₁) (root_ref x.pointer)) ∷ [])
+    rooted_is : rooted_numbered level (merge_numbered e level (positions 0 (bits w key)) (numbered_at 65535 (suc level) (pages_at L b₁) (root_ref y.pointer)) ∷ [])
         ≡ rooted_numbered level (map (merge_numbered e level (positions 0 (bits w key))) whole.0)
     rooted_is =
         ap (λ (l : List (Numbered (suc level))). rooted_numbered level (map (merge_numbered e level (positions 0 (bits w key))) l))
-        (sym (ap (numbers_at (suc level) (pages_at L b₁)) stands_root) ∙ done.numbers)
+        (sym (ap (numbers_at (suc level) (pages_at L b₁)) stands_root) ∙ (done next z d).numbers)
 
     -- The tree without the entry found.
-    pub take_post : (page : ℕ) → page ≡ x.pointer → (b₂ : List ℕ) (r : Root) → FinishPost e P level b₁ page w key b₂ r → TakePost b e P level root w key b₂ r
-    take_post page y b₂ r f =
-        let g : FinishPost e P level b₁ x.pointer w key b₂ r = rw y at f in
+    pub take_post : (page : ℕ) → page ≡ y.pointer → (b₂ : List ℕ) (r : Root) → FinishPost e P level b₁ page w key b₂ r → TakePost b e P level root w key b₂ r
+    take_post page u b₂ r f =
+        let g : FinishPost e P level b₁ y.pointer w key b₂ r = rw u at f in
         record { long = g.long ∙ kept.long; front = g.front ∙ kept.front; pages = g.pages; tree = g.tree ∙ rooted_is }

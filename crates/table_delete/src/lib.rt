@@ -12,9 +12,9 @@ use crate::blank::blank;
 use index_table::layout::{PageNo, Root, child, count};
 use index_write::write::free_page;
 use page_delete::strike_near;
+use page_tree::Entry;
 use table_search::{Leaf, next_position, sparse};
 use tree_delete::removal::remove;
-use tree_delete::rows::{page_of, pointer_to};
 use tree_merge::merge;
 
 // The root rule: a root above level 0 with one entry is freed, and its child is the root.
@@ -22,17 +22,8 @@ fn lower(index: &mut [u8], e: u8, pages: u16, level: u8, page: PageNo) -> Root
     requires { LowerPre e pages level index.old page.0 }
     ensures { LowerPost e pages level index.old page.0 index.new result }
 {
-    if level == 0 {
-        return Root {
-            page: page,
-            level: level,
-        };
-    }
-    if count(index, e, page) != 1 {
-        return Root {
-            page: page,
-            level: level,
-        };
+    if level == 0 || count(index, e, page) != 1 {
+        return Root { page, level };
     }
     let below = child(index, e, page, 0);
     free_page(index, e, page);
@@ -46,12 +37,12 @@ fn lowest_level(index: &[u8], e: u8, leaf: Leaf) -> u8
     ensures { result ≡ lowest_level e (pages_at (layout_of e) index.now) leaf }
 {
     if sparse(index, e, leaf.page) {
-        return 1;
+        1
+    } else if leaf.thin {
+        2
+    } else {
+        3
     }
-    if leaf.thin {
-        return 2;
-    }
-    3
 }
 
 // Ends an off: merges pages along the way of the key, from a lowest level up, applies the root rule, and returns the root that is left.
@@ -87,9 +78,12 @@ pub fn take_out(
     ensures { TakePost index.old e pages level root.0 w key index.new result }
 {
     let position = next_position(w, key, 0);
-    let p = pointer_to(root);
-    let left = remove(index, e, pages, level + 1, 0, p, w, key, position, 0, 0);
-    let page = page_of(left.pointer);
+    let entry = Entry {
+        depth: 0,
+        pointer: u32::from(root),
+    };
+    let x = remove(index, e, pages, level + 1, entry, w, key, position, 0, 0);
+    let page = PageNo::from_pointer(x.left.unwrap().pointer);
     finish(index, e, pages, level, page, w, key, 1)
 }
 
@@ -110,10 +104,7 @@ pub fn take_out_at(
     if strike_near(index, e, leaf.page, leaf.at, leaf.trail, leaf.before) {
         let lowest = lowest_level(index, e, leaf);
         if level < lowest {
-            return Root {
-                page: root,
-                level: level,
-            };
+            return Root { page: root, level };
         }
         return finish(index, e, pages, level, root, w, key, lowest);
     }

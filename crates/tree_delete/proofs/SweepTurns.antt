@@ -24,7 +24,7 @@ use Rattle.entry_delete.specs.Entries.{parts}
 use Rattle.tree_delete.specs.Rows.{around, PutPost}
 use Rattle.tree_delete.specs.Unwinding.{BackPre, BackPost, SweepPre, sweep_at, SweepPost}
 use Rattle.tree_delete.proofs.CalmRows.{idle_row}
-use Rattle.tree_delete.proofs.Frames.{kept_none, kept_owned, kept_then, kept_one, kept_at, before_stays, after_stays}
+use Rattle.tree_delete.proofs.Frames.{kept_owned, kept_then, kept_one, kept_at, before_stays, after_stays}
 
 -- ---- lists
 
@@ -65,18 +65,6 @@ pub record Sweeping (e P n : ℕ) (b₀ : List ℕ) (row₀ : Row) (i₀ w₀ : 
   pub right : w ≤ row.count
   pub kept : Kept (layout_of e) P n b₀ (met_all n (pages_at (layout_of e) b₀) (around row₀ i₀ w₀)) b (around row i w)
   pub whole : sweep_at e n b row i w s ≡ sweep_at e n b₀ row₀ i₀ w₀ s₀
-
--- At first,
-pub sweep_start : {e P n : ℕ} {b : List ℕ} {row : Row} {i w : ℕ} (s : Unwind) → SweepPre e P n b row i w → Sweeping e P n b row i w s b row i w s
-sweep_start {e} {P} {n} {b} {row} {i} {w} s h = record {
-  pre = h;
-  count = refl;
-  full = h.full;
-  left = h.left;
-  right = h.right;
-  kept = kept_none (layout_of e) P n b (around row i w) h.linked;
-  whole = refl;
-}
 
 module _ {e P n : ℕ} {b₀ : List ℕ} {row₀ : Row} {i₀ w₀ : ℕ} {s₀ : Unwind} {b : List ℕ} {row : Row} {i w : ℕ} {s : Unwind} (h : Sweeping e P n b₀ row₀ i₀ w₀ s₀ b row i w s) where
   abbrev L : Layout
@@ -135,13 +123,9 @@ module _ {e P n : ℕ} {b₀ : List ℕ} {row₀ : Row} {i₀ w₀ : ℕ} {s₀ 
     owned' : Owned L b (met_all n (pages_at L b) (front ++ y ∷ after))
     owned' = rw around_is at owned
 
-    -- The next entry can be passed with all below it,
+    -- The next entry can be passed with all below it.
     pub sweep_back : {z : Ref} → z ≡ y → BackPre e P n b z
     sweep_back f = rw f (mid_back front y after (paged_then h.kept.long h.pre.paged) linked' owned')
-
-    -- and what is left of it put before those that are done.
-    pub sweep_put : (1 ≤ w) × (w ≤ row.count) × (row.count ≤ 319)
-    sweep_put = (omega (arith, h.left), h.right, omega (arith, h.count, h.pre.small))
 
     module _ {z : Ref} (f : z ≡ y) (b' : List ℕ) (r : Remnant) (g' : BackPost e P n b z s b' r) (row' : Row) (w' : ℕ) (put : PutPost row w r.left row' w') where
       g : BackPost e P n b y s b' r

@@ -46,11 +46,6 @@ leaf_done e P b x o r t = record {
   state = t.state;
 }
 
--- The pointer of a linked entry fits its two bytes.
-pub back_fits : (n : ℕ) {e P : ℕ} {b : List ℕ} {x : Ref} → BackPre e P n b x → x.1 < 65536
-back_fits zero h = h.linked
-back_fits (suc n) h = omega (arith, h.linked.0.number, h.paged.high)
-
 -- An entry of level 0 is passed.
 pub back_leaf : (n : ℕ) {e P : ℕ} {b : List ℕ} {x : Ref} (s : Unwind) (r : Remnant) → n ≡ 0 → Turned r (step_entry s (leaf_of 65535 x)) → BackPost e P n b x s b r
 unfolding numbered_at

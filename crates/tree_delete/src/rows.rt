@@ -27,8 +27,9 @@ pub fn close(row: &mut Row, i: usize, w: usize)
     ensures { Holds row.new (i + (row.old.count - w)) (around row.old i w) }
 {
     let n = row.count;
-    let first = Row::new().append(*row, 0, i);
-    *row = first.append(*row, w, n);
+    row.depths.copy_within(w..n, i);
+    row.pointers.copy_within(w..n, i);
+    row.count = i + (n - w);
 }
 
 // Stores the page's row, or frees the page where there is none, and returns the entry for its parent, if it stays.

@@ -13,13 +13,13 @@ use Rattle.page_tree.specs.declared.Unwind.TheVariants.{Idle}
 use Rattle.page_tree.specs.Numbered.{Numbered, join_numbered, kept_under}
 use Rattle.page_tree.proofs.ListLaws.{sum_append}
 use Rattle.page_tree.proofs.ClosedRows.{last_depth_append}
-use Rattle.index_table.specs.Layout.{Layout, layout_of, Ref, Within}
+use Rattle.index_table.specs.Layout.{Layout, layout_of, Ref}
 use Rattle.index_table.specs.Pages.{Pages, pages_at, numbered_at, met, met_all}
 use Rattle.index_table.proofs.Frames.{UnchangedRow}
 use Rattle.index_write.specs.Standing.{Owned}
-use Rattle.entry_delete.specs.declared.Remnant.{Remnant}
-use Rattle.entry_delete.specs.Entries.{parts}
-use Rattle.tree_delete.specs.declared.rows.Slot.{Slot}
+use Rattle.std.specs.Prelude.{Option}
+use Rattle.page_tree.specs.declared.Entry.{Entry}
+use Rattle.entry_delete.specs.Entries.{entries_of}
 use Rattle.tree_delete.specs.Keeping.{numbers_at, Linked, Kept}
 use Rattle.tree_delete.specs.Rows.{around, PutPost, SettlePre, SettlePost, entry_for}
 use Rattle.tree_delete.specs.Unwinding.{BackPre, Done}
@@ -81,11 +81,7 @@ module _ {e P n : ℕ} {b : List ℕ} {x : Ref} {j : ℕ} (pre : JoinPre e P n b
   right_linked : Linked L P (suc n) b v
   right_linked = entry_linked back (suc j) inside
 
-  -- The page can be loaded,
-  pub join_load : Within (layout_of e) b x.1 × (length (row_below e b x) ≤ e)
-  join_load = (page_within back, back.linked.0.few)
-
-  -- and the two pages can be made one.
+  -- The two pages can be made one.
   pub join_gather : (left right : ℕ) → left ≡ u.1 → right ≡ v.1 → GatherPre e b left right
   join_gather left right y z =
       rw (y, z)
@@ -95,18 +91,7 @@ module _ {e P n : ℕ} {b : List ℕ} {x : Ref} {j : ℕ} (pre : JoinPre e P n b
   pub join_table : {b' : List ℕ} {left right : ℕ} → b' ≡ gathered e n b left right → left ≡ u.1 → right ≡ v.1 → b' ≡ gathered e n b u.1 v.1
   join_table h y z = h ∙ ap₂ (λ (l r : ℕ). gathered e n b l r) y z
 
-  -- The page's row, once loaded, has the two places before j + 2;
-  pub join_put : {loaded : Row} → Holds loaded (length (row_below e b x)) (row_below e b x) → e < 256
-      → (1 ≤ j + 2) × (j + 2 ≤ loaded.count) × (loaded.count ≤ 319)
-  join_put h small = (omega arith, omega (arith, h.count, inside), omega (arith, h.count, back.linked.0.few))
-
-  -- its entries before j and those from the new one on can be joined;
-  pub join_joined : {loaded : Row} {left : Remnant} {slot : Slot} → Holds loaded (length (row_below e b x)) (row_below e b x) → e < 256
-      → PutPost loaded (j + 2) left slot → (j ≤ slot.at) × (slot.at ≤ slot.row.count) × (slot.row.count ≤ 319)
-  join_joined h small put =
-      (omega (arith, put.least), omega (arith, put.most, put.count, h.count, inside), omega (arith, put.count, h.count, back.linked.0.few))
-
-  -- and the new entry is that of the joined page.
+  -- The new entry is that of the joined page.
   pub join_entry : {d p : ℕ} → d ≡ v.0 → p ≡ u.1 → ◌≡◌ {A = List Ref} ((d, p) ∷ []) ((v.0, u.1) ∷ [])
   join_entry y z = ap₂ {C = List Ref} (λ (d p : ℕ). (d, p) ∷ []) y z
 
@@ -166,8 +151,8 @@ module _ {e P n : ℕ} {b : List ℕ} {x : Ref} {j : ℕ} (pre : JoinPre e P n b
 
   -- ---- the parent's row
 
-  module _ (loaded : Row) (h : Holds loaded (length row) row) (left : Remnant) (stays : parts left ≡ joined ∷ []) (slot : Slot) (put : PutPost loaded (j + 2) left slot)
-      (all : Row) (g : Holds all (j + (slot.row.count - slot.at)) (around slot.row j slot.at)) where
+  module _ (loaded : Row) (h : Holds loaded (length row) row) (left : Option Entry) (stays : entries_of left ≡ joined ∷ []) (row' : Row) (at' : ℕ)
+      (put : PutPost loaded (j + 2) left row' at') (all : Row) (g : Holds all (j + (row'.count - at')) (around row' j at')) where
     two : j + 2 ≡ suc (suc j)
     two = omega arith
 
@@ -189,20 +174,20 @@ module _ {e P n : ℕ} {b : List ℕ} {x : Ref} {j : ℕ} (pre : JoinPre e P n b
       kept_now = rw (at_table, row_is) row_kept
 
       -- The row can be settled,
-      pub join_settle : SettlePre e b' x.1 (record { row = all; state = Idle })
+      pub join_settle : SettlePre e b' x.1 all
       join_settle = record {
         within = omega (arith, kept_now.long, page_within back);
         few = count_few;
         fitting = linked_fits e P (suc n) b' (row_of all) back.paged.high kept_now.linked;
       }
 
-      module _ (b'' : List ℕ) (was : Remnant) (s : SettlePost e (n + 1) b' x.1 (record { row = all; state = Idle }) b'' was) where
-        done : Done e P (suc (suc n)) b x (kept_under x.1 numbers, Idle) b'' was
+      module _ (b'' : List ℕ) (was : Option Entry) (s : SettlePost e (n + 1) b' x.1 all b'' was) where
+        done : Done e P (suc (suc n)) b x (kept_under x.1 numbers, Idle) b'' (record { left = was; state = Idle })
         done =
-            up_done back (numbers, Idle) b' (record { row = all; state = Idle }) kept_now
+            up_done back (numbers, Idle) b' all Idle kept_now
             (rw (at_table, row_is) row_numbers) refl count_few b'' was (rw (add-one n) at s)
 
-        entry_is : parts was ≡ x ∷ []
+        entry_is : entries_of was ≡ x ∷ []
         entry_is = s.entries ∙ ap (entry_for x.1) row_is ∙ entry_some x.1 x.0 now some_now (sym last_same)
 
         number_is : numbered_at 65535 (suc (suc n)) (pages_at L b'') x ≡ (x.1, numbers)

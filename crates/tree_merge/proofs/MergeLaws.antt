@@ -12,20 +12,19 @@ use Rattle.page_tree.specs.Merging.{sparse, Offered, offer, accept, settle, merg
 use Rattle.page_tree.specs.Numbered.{Numbered, numbered_depth, join_numbered, merge_numbered}
 use Rattle.page_tree.proofs.WalkPlaces.{find_at}
 use Rattle.page_tree.proofs.MergingPlaces.{placed, merge_in_at}
-use Rattle.index_table.specs.Layout.{Layout, layout_of, Ref, Within, page_bytes, ref_at}
+use Rattle.index_table.specs.Layout.{Layout, layout_of, Ref, page_bytes, ref_at}
 use Rattle.index_table.specs.Pages.{Pages, pages_at, numbered_at, met}
 use Rattle.index_write.specs.Standing.{Owned}
 use Rattle.table_search.specs.declared.Spot.{Spot}
 use Rattle.table_search.specs.Places.{left_from, SeekPre, Stopped}
 use Rattle.table_search.proofs.Stops.{read_entry}
-use Rattle.table_search.proofs.Descents.{descend_within, descend_inside}
 use Rattle.tree_delete.specs.Keeping.{numbers_at, Kept}
 use Rattle.tree_delete.specs.Removing.{RemovePre}
 use Rattle.tree_delete.proofs.Frames.{kept_one, kept_self, kept_then}
 use Rattle.tree_delete.proofs.SweepTurns.{paged_then}
 use Rattle.tree_delete.proofs.FoundPlaces.{found_down, found_left, found_passes, found_stops, found_numbers}
 use Rattle.tree_delete.proofs.EntryStays.{row_same, entry_kept, front_stays, rest_stays}
-use Rattle.tree_delete.proofs.Removals.{remove_descend, locate_seek}
+use Rattle.tree_delete.proofs.Removals.{locate_seek}
 use Rattle.tree_merge.specs.Merges.{PlacePre, beside_at, BesidePost, missed, none_missed, Covered, MergePre, Merged}
 
 -- ---- a row whose thing found is not sparse, and stays below
@@ -104,13 +103,9 @@ pub merge_above : {e P n : ℕ} {b : List ℕ} {x : Ref} {w key position lowest 
 merge_above h l z = omega (arith, h.covered.some, l, z)
 
 module _ {e P n : ℕ} {b : List ℕ} {x : Ref} {w key position : ℕ} (h : RemovePre e P (suc n) b x w key position) where
-  -- The page can be searched,
+  -- The page can be searched.
   pub merge_seek : SeekPre b e x.1 w key position
   merge_seek = locate_seek h
-
-  -- and read at the place found.
-  pub merge_read : {τ : ℕ} (s : Spot) → Stopped w key position τ (pages_at (layout_of e) b x.1) s → Within (layout_of e) b x.1 × (s.at < e)
-  merge_read s a = (descend_within (remove_descend h), descend_inside (remove_descend h) s a)
 
 -- ---- a page of level n + 1
 

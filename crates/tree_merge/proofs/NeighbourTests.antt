@@ -9,21 +9,17 @@ use Rattle.index_table.specs.Layout.{layout_of, Ref, Within, page_bytes, count_o
 use Rattle.index_table.specs.Pages.{pages_at}
 use Rattle.table_search.specs.Places.{sparse_at}
 use Rattle.tree_merge.specs.Merges.{PairPre, JoinPost, PlacePre, SparsePre, LeftShut, LeftPost, RightPre, BesidePost}
-use Rattle.tree_merge.proofs.EntryReads.{row_below, entry_below, read_below, sparse_below, joinable_below, count_read, page_within, entry_few, pointer_read, child_within}
+use Rattle.tree_merge.proofs.EntryReads.{row_below, entry_below, read_below, sparse_below, joinable_below, count_read, pointer_read, child_within}
 use Rattle.tree_merge.proofs.NeighbourLaws.{beside_calm, beside_left, beside_last, beside_none, beside_right}
 
 -- ---- whether the page is sparse
 
 module _ {e P n : ℕ} {b : List ℕ} {x : Ref} {i : ℕ} (pre : PlacePre e P n b x i) where
-  -- The entry can be read,
-  pub place_read : Within (layout_of e) b x.1 × (i < e)
-  place_read = (page_within pre.back, entry_few pre.back i pre.inside)
-
   module _ {p : ℕ} (p_is : p ≡ (read_below e b x i).1) where
     page_is : p ≡ (entry_below e b x i).1
     page_is = pointer_read pre.back i pre.inside p_is
 
-    -- and its page too.
+    -- The entry's page can be read.
     pub below_within : Within (layout_of e) b p
     below_within = child_within pre.back i pre.inside page_is
 
@@ -68,13 +64,9 @@ module _ {e P n : ℕ} {b : List ℕ} {x : Ref} {i : ℕ} (pre : SparsePre e P n
 
 -- ---- the right neighbour
 
--- Where nothing is joined on the left, no byte is changed, and the right one is tried:
+-- Where nothing is joined on the left, no byte is changed, and the right one is tried.
 pub then_right : {e P n : ℕ} {b b' : List ℕ} {x : Ref} {i : ℕ} → SparsePre e P n b x i → (b' ≡ b) × LeftShut e (pages_at (layout_of e) b) x.1 i → RightPre e P n b' x i
 then_right {e} {P} {n} {x = x} {i} s h = subst (λ (t : List ℕ). RightPre e P n t x i) (sym h.0) (record { sparse = s; shut = h.1 })
-
--- what is left then is what is asked for.
-pub then_post : {e P n : ℕ} {b b' b'' : List ℕ} {x : Ref} {i : ℕ} → b' ≡ b → BesidePost e P n b' x i b'' → BesidePost e P n b x i b''
-then_post {e} {P} {n} {b'' = b''} {x} {i} z h = subst (λ (t : List ℕ). BesidePost e P n t x i b'') z h
 
 module _ {e P n : ℕ} {b : List ℕ} {x : Ref} {i : ℕ} (pre : RightPre e P n b x i) {k c : ℕ} (k_is : k ≡ c) (c_is : c ≡ count_of (page_bytes (layout_of e) b x.1)) where
   count_is : k ≡ length (row_below e b x)

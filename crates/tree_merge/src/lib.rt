@@ -7,13 +7,12 @@ ghost use Rattle.index_table.specs.Pages.{pages_at};
 ghost use Rattle.table_search.specs.Places.{left_from};
 ghost use Rattle.tree_merge.specs.Merges.{GatherPre, gathered, joinable_at, entry_at, PairPre, JoinPre, JoinPost, PlacePre, SparsePre, LeftPost, RightPre, BesidePost, MergePre, Merged};
 
-use entry_delete::Remnant;
-use index_table::layout::{PageNo, child, count, depth, wide};
+use index_table::layout::{PageNo, child, count, depth};
 use index_write::rows::{append_page, load_page};
 use index_write::write::{free_page, store_page};
-use page_tree::Unwind;
+use page_tree::Entry;
 use table_search::{seek, sparse};
-use tree_delete::rows::{Swept, joined, pointer_to, put, settle};
+use tree_delete::rows::{close, put, settle};
 
 // Stores the entries of a page behind those of the page left of it, and frees the page.
 fn gather(index: &mut [u8], e: u8, level: u8, left: PageNo, right: PageNo)
@@ -21,7 +20,7 @@ fn gather(index: &mut [u8], e: u8, level: u8, left: PageNo, right: PageNo)
     ensures { index.new ≡ gathered e level index.old left.0 right.0 }
 {
     let first = load_page(index, e, left);
-    let n = wide(count(index, e, right));
+    let n = usize::from(count(index, e, right));
     let row = append_page(first, index, e, right, 0, n);
     let m = row.count;
     store_page(index, e, left, level, row, 0, m);
@@ -35,12 +34,11 @@ fn joinable(index: &[u8], e: u8, pages: u16, level: u8, d: u8, page: PageNo, j: 
 {
     let a = depth(index, e, page, j);
     let b = depth(index, e, page, j + 1);
-    if a <= b {
-        return false;
-    }
     let left = child(index, e, page, j);
     let right = child(index, e, page, j + 1);
-    wide(count(index, e, left)) + wide(count(index, e, right)) <= wide(e)
+    b < a
+        && usize::from(count(index, e, left)) + usize::from(count(index, e, right))
+            <= usize::from(e)
 }
 
 // Makes one page of those of entries j and j + 1 of a page of level + 1, under the number of the left one and with the entry of the right one's depth.
@@ -50,23 +48,15 @@ fn join(index: &mut [u8], e: u8, pages: u16, level: u8, d: u8, page: PageNo, j: 
 {
     let left = child(index, e, page, j);
     let right = child(index, e, page, j + 1);
-    let c = depth(index, e, page, j + 1);
-    let row = load_page(index, e, page);
+    let entry = Entry {
+        depth: depth(index, e, page, j + 1),
+        pointer: u32::from(left),
+    };
+    let mut row = load_page(index, e, page);
     gather(index, e, level, left, right);
-    let x = Remnant {
-        stays: true,
-        depth: c,
-        pointer: pointer_to(left),
-        state: Unwind::Idle,
-    };
-    let slot = put(row, j + 2, x);
-    let at = slot.at;
-    let all = joined(slot.row, j, at);
-    let done = Swept {
-        row: all,
-        state: Unwind::Idle,
-    };
-    let was = settle(index, e, level + 1, page, done);
+    let at = put(&mut row, j + 2, Some(entry));
+    close(&mut row, j, at);
+    settle(index, e, level + 1, page, row);
 }
 
 // Joins the page of entry `at` of a page of level + 1 with its left neighbour where they may be one, and returns whether it did.
@@ -74,14 +64,10 @@ fn join_left(index: &mut [u8], e: u8, pages: u16, level: u8, d: u8, page: PageNo
     requires { SparsePre e pages level index.old (d, page.0) at × (level < 255) }
     ensures { LeftPost e pages level index.old (d, page.0) at index.new result }
 {
-    if at == 0 {
+    if at == 0 || !joinable(index, e, pages, level, d, page, at - 1) {
         return false;
     }
-    let j = at - 1;
-    if !joinable(index, e, pages, level, d, page, j) {
-        return false;
-    }
-    join(index, e, pages, level, d, page, j);
+    join(index, e, pages, level, d, page, at - 1);
     true
 }
 
@@ -90,13 +76,11 @@ fn join_right(index: &mut [u8], e: u8, pages: u16, level: u8, d: u8, page: PageN
     requires { RightPre e pages level index.old (d, page.0) at × (level < 255) }
     ensures { BesidePost e pages level index.old (d, page.0) at index.new }
 {
-    if wide(count(index, e, page)) <= at + 1 {
-        return;
+    if at + 1 < usize::from(count(index, e, page))
+        && joinable(index, e, pages, level, d, page, at)
+    {
+        join(index, e, pages, level, d, page, at);
     }
-    if !joinable(index, e, pages, level, d, page, at) {
-        return;
-    }
-    join(index, e, pages, level, d, page, at);
 }
 
 // Joins the page of entry `at` of a page of level + 1 with a neighbour, where it is sparse and they may be one: the left one, or else the right one.
@@ -105,13 +89,9 @@ fn join_beside(index: &mut [u8], e: u8, pages: u16, level: u8, d: u8, page: Page
     ensures { BesidePost e pages level index.old (d, page.0) at index.new }
 {
     let below = child(index, e, page, at);
-    if !sparse(index, e, below) {
-        return;
+    if sparse(index, e, below) && !join_left(index, e, pages, level, d, page, at) {
+        join_right(index, e, pages, level, d, page, at);
     }
-    if join_left(index, e, pages, level, d, page, at) {
-        return;
-    }
-    join_right(index, e, pages, level, d, page, at);
 }
 
 // Goes from a page of a level, whose last depth is d, down to the page that covers a key, and joins on the way back, level by level, a sparse page with a

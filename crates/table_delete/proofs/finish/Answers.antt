@@ -1,10 +1,6 @@
 -- From the root down with the key's first position, then the root rule. Assumes nothing.
-use native.Mathlib.Omega.{arith}
 use Rattle.table_delete.proofs.Finishing.{finish_merge, finish_lower, finish_post}
 use Rattle.table_delete.proofs.finish.Goals as goal
-
-pub next_position-position-requires : goal.next_position-position-requires
-next_position-position-requires c = (c.requires.width, omega arith, c.requires.narrow)
 
 pub merge-requires : goal.merge-requires
 merge-requires c = finish_merge c.requires c.next_position-position.ensures

@@ -2,7 +2,6 @@
 use borrow.Author.Rules.{rules}
 use mathlib.Core.Path.{◌∙◌}
 use Rattle.tree_merge.proofs.MergeLaws.{covered_all}
-use native.Mathlib.Omega.{arith}
 use Rattle.table_delete.proofs.TakingAt.{take_near, near_quiet, near_within, near_finish, near_calm, take_blank, quiet_finish, quiet_taken, far_pre, far_post}
 use Rattle.table_delete.proofs.take_out_at.Goals as goal
 
@@ -26,11 +25,6 @@ pub returns-then-strike_near : goal.returns-then-strike_near
 returns-then-strike_near c =
     let pre = c.requires in
     quiet_taken _ pre.take pre.begins _ (near_quiet _ pre (search rules) _ (c.strike_near.ensures.done c.if-strike_near.true)) _ _ c.finish.ensures
-
-pub next_position-position-requires : goal.next_position-position-requires
-next_position-position-requires c =
-    let pre = c.requires in
-    (pre.take.tree.width, omega arith, pre.take.narrow)
 
 pub blank-requires : goal.blank-requires
 blank-requires c =

@@ -1,6 +1,6 @@
 -- Level by level: the page is searched, what lies below the entry found is merged, and then the entry's neighbours are looked at. Assumes nothing.
 use native.Mathlib.Omega.{arith}
-use Rattle.tree_merge.proofs.MergeLaws.{merge_low, merge_above, merge_seek, merge_read, merge_down, merge_beside, merge_up}
+use Rattle.tree_merge.proofs.MergeLaws.{merge_low, merge_above, merge_seek, merge_down, merge_beside, merge_up}
 use Rattle.tree_merge.proofs.+merge.Goals as goal
 
 pub returns-then-level-lowest : goal.returns-then-level-lowest
@@ -9,26 +9,10 @@ returns-then-level-lowest t c = merge_low _ c.if-level-lowest.true c.requires
 pub seek-s-requires : goal.seek-s-requires
 seek-s-requires t c = merge_seek c.requires.remove
 
-pub depth-c-requires : goal.depth-c-requires
-depth-c-requires t c =
-    merge_read c.requires.remove _ c.seek-s.ensures
-
-pub child-below-requires : goal.child-below-requires
-child-below-requires t c =
-    merge_read c.requires.remove _ c.seek-s.ensures
-
-pub overflow_sub-level : goal.overflow_sub-level
-overflow_sub-level t c =
-    omega (arith, merge_above c.requires c.if-level-lowest.false)
-
 pub merge-requires : goal.merge-requires
 merge-requires t c =
     let ne = merge_above c.requires c.if-level-lowest.false in
     (omega (arith, c.decreases, ne), merge_down _ c.requires _ c.seek-s.ensures ne c.depth-c.ensures c.child-below.ensures)
-
-pub overflow_sub-level-2 : goal.overflow_sub-level-2
-overflow_sub-level-2 t c =
-    omega (arith, merge_above c.requires c.if-level-lowest.false)
 
 pub join_beside-requires : goal.join_beside-requires
 join_beside-requires t c = (
