@@ -1,8 +1,7 @@
 -- A chunk in pieces: what is told to the library of all of them. Assumes nothing.
-use mathlib.Core.Path.{◌≡◌, refl, sym, ap, ◌∙◌}
-use mathlib.Core.Bool.{Bool, true, false, cond}
+use mathlib.Core.Path.{◌≡◌, refl, sym, ◌∙◌}
 use mathlib.Core.List.{List, [], ◌++◌, append-nil}
-use Prim.Native.Nat.{ℕ, suc, ◌+◌, ◌-◌, ◌≤◌, ◌<◌}
+use Prim.Native.Nat.{ℕ, suc, ◌+◌, ◌≤◌}
 use native.Mathlib.Omega.{arith}
 use lib.ListN.{length, length-append, drop_of_length-le}
 use Rattle.tag_index.specs.Tables.{Tables}
@@ -16,14 +15,8 @@ use Rattle.day_book.proofs.ToldLines.{told_both}
 use Rattle.book_chunks.specs.Chunks.{begun, unread, Ready, ChunkDoes}
 use Rattle.book_chunks.proofs.EveryInput.{written}
 use Rattle.book_output.specs.declared.Reading.{Reading}
-use Rattle.book_output.specs.Readings.{PiecesReady, begun_line, PiecesDo, EndDoes, ReadDoes}
-
--- The progress at the front of a chunk, and the reading behind it.
-abbrev pub at_front : Reading → Progress
-at_front a = record { lines = a.lines; held = a.held; at = 0; filled = 0 }
-
-abbrev pub behind : Progress → Bool → Reading
-behind p going = record { lines = p.lines; held = p.held; going = going }
+use Rattle.std.specs.Prelude.{Ok}
+use Rattle.book_output.specs.Readings.{at_front, PiecesReady, begun_line, PiecesDo}
 
 -- From the front of the chunk to a place of it.
 pub record Through (t : Tables) (chunk held : List ℕ) (a : Progress) (u : Tables) (held₁ out₁ : List ℕ) (p : Progress) : Type 0 where
@@ -67,49 +60,27 @@ through_piece s does =
       empty = refl;
     }
 
--- A piece takes something of the chunk.
-pub piece_onward : {t u v : Tables} {chunk held held₁ held₂ out₁ out₂ : List ℕ} {a p r : Progress} → Through t chunk held a u held₁ out₁ p
-    → ChunkDoes u chunk held₁ out₁ p v held₂ out₂ r → p.at < length chunk → length chunk - r.at < length chunk - p.at
-piece_onward s does some =
-    let onward = does.onward some (omega (arith, s.empty, s.buffer)) in
-    omega (arith, onward)
-
--- A failed write, and the end of the chunk.
-pub pieces_fail : {t u v : Tables} {chunk held held₁ held₂ out₁ out₂ : List ℕ} {a : Reading} {p r : Progress} → Through t chunk held (at_front a) u held₁ out₁ p
-    → ChunkDoes u chunk held₁ out₁ p v held₂ out₂ r → PiecesDo t chunk held a v held₂ out₂ (behind r false)
-pieces_fail s does =
-    let ready = does.passed.ready in
-    record {
-      between = record { lent = ready.lent; room = ready.room; buffer = omega (arith, s.buffer, does.passed.answered.long) };
-      all = λ h. let z : ◌≡◌ {A = ℕ} 1 0 = ap (λ t. cond t 0 1) h in absurd (omega arith);
-    }
-
 met_none : (line : List ℕ) → (lines_met line [] ≡ []) × (left_open line [] ≡ line)
 unfolding lines_met left_open
 met_none line = (refl, refl)
 
-pub pieces_end : {t u : Tables} {chunk held held₁ out₁ : List ℕ} {a : Reading} {p : Progress} → Through t chunk held (at_front a) u held₁ out₁ p → length chunk ≤ p.at
-    → PiecesDo t chunk held a u held₁ out₁ (behind p true)
+-- The end of the chunk.
+pub pieces_end : {E : Type 0} {t u : Tables} {chunk held held₁ out₁ : List ℕ} {a : Reading} {p : Progress} → Through t chunk held (at_front a) u held₁ out₁ p
+    → length chunk ≤ p.at → PiecesDo {E = E} t chunk held a u held₁ out₁ (Ok (record { lines = p.lines; held = p.held }))
 pieces_end {chunk = chunk} {held = held} {held₁ = held₁} {a = a} {p = p} s over =
     let none : unread chunk p ≡ [] = drop_of_length-le chunk over in
     let met : lines_met (begun_line held a) chunk ≡ s.lines = s.passes.met ∙ rw (none, (met_none (begun held₁ p)).0, append-nil) in
     record {
-      between = record { lent = s.ready.lent; room = s.ready.room; buffer = s.buffer };
-      all = λ h. record {
-        feeds = s.feeds;
-        printed = s.printed;
-        told = rw met s.told;
-        counted = rw met s.counted;
-        opens = sym (s.passes.opens ∙ rw (none, (met_none (begun held₁ p)).1));
-      };
+      lent = s.ready.lent;
+      buffer = s.buffer;
+      all = (
+        s.ready.room,
+        record {
+          feeds = s.feeds;
+          printed = s.printed;
+          told = rw met s.told;
+          counted = rw met s.counted;
+          opens = sym (s.passes.opens ∙ rw (none, (met_none (begun held₁ p)).1));
+        },
+      );
     }
-
--- ---- what a read gave
-
--- Nothing at the end of the input, or a chunk.
-pub read_ends : {t u : Tables} {chunk held out₁ : List ℕ} {a r : Reading} → length chunk ≡ 0 → EndDoes t held a u out₁ r → ReadDoes t chunk held a u held out₁ r
-read_ends none does = record { between = does.between; tells = λ h. does.tells; stops = λ h. does.stops; all = λ some. absurd (omega arith) }
-
-pub read_chunk : {t u : Tables} {chunk held held₁ out₁ : List ℕ} {a r : Reading} → (length chunk ≡ 0 → ⊥) → PiecesDo t chunk held a u held₁ out₁ r
-    → ReadDoes t chunk held a u held₁ out₁ r
-read_chunk some does = record { between = does.between; tells = λ h. absurd (some h); stops = λ h. absurd (some h); all = λ h. does.all }

@@ -1,10 +1,11 @@
 -- What holds of the day book between two reads, and what is told to the library of a chunk. Assumes nothing.
-use Rattle.std.specs.Prelude.{◌≡◌, true, false, List, [], ℕ, suc, ◌+◌, ◌≤◌, ◌<◌, length, take}
+use Rattle.std.specs.Prelude.{◌≡◌, Option, MatchOption, Result, IfOk, List, [], ℕ, suc, ◌+◌, ◌≤◌, ◌<◌, length, take}
 use Rattle.tag_index.specs.Tables.{Tables}
 use Rattle.tag_index.specs.Histories.{Feed}
 use Rattle.book_input.specs.Lines.{begun_before, lines_met, left_open}
 use Rattle.day_book.specs.LineAnswers.{Told}
 use Rattle.book_input.specs.Progress.{last_number}
+use Rattle.book_input.specs.declared.Progress.{Progress}
 use Rattle.book_output.specs.declared.Reading.{Reading}
 
 -- 81 bytes are lent for a line, and at most these are held; the buffer has room for one answer at least.
@@ -18,6 +19,10 @@ pub record PiecesReady (chunk held out : List ℕ) (a : Reading) : Type 0 where
   pub between : Between held out a
   pub numbers : suc (a.lines + length chunk) ≤ last_number
 
+-- The progress at the front of a chunk.
+abbrev pub at_front : Reading → Progress
+at_front a = record { lines = a.lines; held = a.held; at = 0; filled = 0 }
+
 -- The line begun.
 abbrev pub begun_line : List ℕ → Reading → List ℕ
 begun_line held a = take a.held held
@@ -30,10 +35,11 @@ pub record ChunkTold (t : Tables) (chunk held : List ℕ) (a : Reading) (u : Tab
   pub counted : r.lines ≡ a.lines + length (lines_met (begun_line held a) chunk)
   pub opens : begun_line held₁ r ≡ left_open (begun_line held a) chunk
 
--- So it is, unless a write failed.
-pub record PiecesDo (t : Tables) (chunk held : List ℕ) (a : Reading) (u : Tables) (held₁ out₁ : List ℕ) (r : Reading) : Type 0 where
-  pub between : Between held₁ out₁ r
-  pub all : r.going ≡ true → ChunkTold t chunk held a u held₁ r
+-- So it is, unless a write failed. The slices that were lent keep their lengths in any case.
+pub record PiecesDo {E : Type 0} (t : Tables) (chunk held : List ℕ) (a : Reading) (u : Tables) (held₁ out₁ : List ℕ) (r : Result Reading E) : Type 0 where
+  pub lent : length held₁ ≡ 81
+  pub buffer : 256 ≤ length out₁
+  pub all : IfOk r (λ b. (b.held ≤ 81) × ChunkTold t chunk held a u held₁ b)
 
 -- There is a number for one line more.
 pub record EndReady (held out : List ℕ) (a : Reading) : Type 0 where
@@ -46,15 +52,9 @@ pub record EndTells (t : Tables) (held : List ℕ) (a : Reading) (u : Tables) : 
   pub printed : List ℕ
   pub told : Told t (suc a.lines) (begun_before (begun_line held a) []) feeds printed u
 
--- So it is at the end of the input, and the day book ends.
-pub record EndDoes (t : Tables) (held : List ℕ) (a : Reading) (u : Tables) (out₁ : List ℕ) (r : Reading) : Type 0 where
-  pub between : Between held out₁ r
-  pub tells : EndTells t held a u
-  pub stops : r.going ≡ false
-
--- What a read gave: a chunk, or nothing at the end of the input.
-pub record ReadDoes (t : Tables) (chunk held : List ℕ) (a : Reading) (u : Tables) (held₁ out₁ : List ℕ) (r : Reading) : Type 0 where
-  pub between : Between held₁ out₁ r
+-- What a read gave: a chunk, or nothing at the end of the input, where the day book ends too. Where a write failed it is not said how far the day book came.
+pub record ReadDoes {E : Type 0} (t : Tables) (chunk held : List ℕ) (a : Reading) (u : Tables) (held₁ out₁ : List ℕ) (r : Result (Option Reading) E) : Type 0 where
+  pub lent : length held₁ ≡ 81
+  pub buffer : 256 ≤ length out₁
   pub tells : length chunk ≡ 0 → EndTells t held a u
-  pub stops : length chunk ≡ 0 → r.going ≡ false
-  pub all : 0 < length chunk → r.going ≡ true → ChunkTold t chunk held a u held₁ r
+  pub goes_on : IfOk r (λ o. MatchOption o (length chunk ≡ 0) (λ b. (0 < length chunk) × (b.held ≤ 81) × ChunkTold t chunk held a u held₁ b))

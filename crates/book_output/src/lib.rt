@@ -1,18 +1,32 @@
 // What a read gave is answered, and the answers are written.
 #![tactic(auto)]
 
+ghost use Rattle.std.specs.Prelude.{◌≡◌};
 ghost use Rattle.day_book.specs.LineAnswers.{tables};
-ghost use Rattle.book_output.specs.Readings.{PiecesReady, PiecesDo, EndReady, EndDoes, ReadDoes};
+ghost use Rattle.book_output.specs.Readings.{at_front, PiecesReady, PiecesDo, EndReady, EndTells, ReadDoes};
 
 use book_input::Progress;
-use std::io::Write;
+use std::io::{self, Write};
 
-// How far the day book has come between two reads: the lines answered, the bytes held of the line that is being read, and whether it goes on.
-#[derive(Clone, Copy)]
+// How far the day book has come between two reads: the lines answered, and the bytes held of the line that is being read.
+#[derive(Clone, Copy, Default)]
 pub struct Reading {
     pub lines: u64,
     pub held: usize,
-    pub going: bool,
+}
+
+// At the front of the chunk that was read, with no answers to be written.
+impl From<Reading> for Progress {
+    ghost from_gives = { λ reading p. p ≡ at_front reading };
+
+    fn from(reading: Reading) -> Progress {
+        Progress {
+            lines: reading.lines,
+            held: reading.held,
+            at: 0,
+            filled: 0,
+        }
+    }
 }
 
 // All lines of a chunk, in pieces whose answers the buffer has room for, each written before the next. A failed write ends the day book.
@@ -25,36 +39,23 @@ fn answer_pieces<W: Write>(
     out: &mut [u8],
     reading: Reading,
     output: &mut W,
-) -> Reading
+) -> io::Result<Reading>
     requires { PiecesReady chunk.now held.old out.old reading }
     ensures { PiecesDo (tables index.old keys.old used.old) chunk.now held.old reading (tables index.new keys.new used.new) held.new out.new result }
 {
-    let mut p = Progress {
-        lines: reading.lines,
-        held: reading.held,
-        at: 0,
-        filled: 0,
-    };
+    let mut p = Progress::from(reading);
     while p.at < chunk.len() {
         p = book_chunks::answer_chunk(index, keys, used, chunk, held, out, p);
-        let filled = p.filled;
-        if output.write_all(&out[..filled]).is_err() {
-            return Reading {
-                lines: p.lines,
-                held: p.held,
-                going: false,
-            };
-        }
+        output.write_all(&out[..p.filled])?;
         p.filled = 0;
     }
-    Reading {
+    Ok(Reading {
         lines: p.lines,
         held: p.held,
-        going: true,
-    }
+    })
 }
 
-// At the end of the input a line without newline is answered, and the day book ends.
+// At the end of the input a line without newline is answered.
 fn answer_end<W: Write>(
     index: &mut [u8],
     keys: &mut [u64],
@@ -63,27 +64,15 @@ fn answer_end<W: Write>(
     out: &mut [u8],
     reading: Reading,
     output: &mut W,
-) -> Reading
+) -> io::Result<()>
     requires { EndReady held.now out.old reading }
-    ensures { EndDoes (tables index.old keys.old used.old) held.now reading (tables index.new keys.new used.new) out.new result }
+    ensures { EndTells (tables index.old keys.old used.old) held.now reading (tables index.new keys.new used.new) }
 {
-    let begun = Progress {
-        lines: reading.lines,
-        held: reading.held,
-        at: 0,
-        filled: 0,
-    };
-    let p = book_chunks::answer_last(index, keys, used, held, out, begun);
-    let filled = p.filled;
-    let _ = output.write_all(&out[..filled]);
-    Reading {
-        lines: p.lines,
-        held: p.held,
-        going: false,
-    }
+    let p = book_chunks::answer_last(index, keys, used, held, out, reading.into());
+    output.write_all(&out[..p.filled])
 }
 
-// What a read gave is answered. If it gave nothing the input is at its end.
+// What a read gave is answered. If it gave nothing the input is at its end, and so is the day book.
 pub fn answer_read<W: Write>(
     index: &mut [u8],
     keys: &mut [u64],
@@ -93,12 +82,14 @@ pub fn answer_read<W: Write>(
     out: &mut [u8],
     reading: Reading,
     output: &mut W,
-) -> Reading
+) -> io::Result<Option<Reading>>
     requires { PiecesReady chunk.now held.old out.old reading }
     ensures { ReadDoes (tables index.old keys.old used.old) chunk.now held.old reading (tables index.new keys.new used.new) held.new out.new result }
 {
-    if chunk.len() == 0 {
-        return answer_end(index, keys, used, held, out, reading, output);
+    if chunk.is_empty() {
+        answer_end(index, keys, used, held, out, reading, output)?;
+        return Ok(None);
     }
-    answer_pieces(index, keys, used, chunk, held, out, reading, output)
+    let reading = answer_pieces(index, keys, used, chunk, held, out, reading, output)?;
+    Ok(Some(reading))
 }

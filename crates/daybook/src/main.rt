@@ -1,27 +1,16 @@
 // The day book: each line of standard input is answered on standard output.
 #![tactic(auto)]
 
-ghost use Rattle.std.specs.Prelude.{◌≡◌};
+ghost use Rattle.std.specs.Prelude.{IfOk, IfSome};
 ghost use Rattle.book_output.specs.Readings.{Between};
 
 use book_output::Reading;
-use std::io::{Read, Write};
+use std::io::{self, Read, Write};
 
 // No run comes to more lines; so their numbers never run out.
 const MAX_LINES: u64 = 9223372036854775808;
 
-// The day book ends where it is.
-fn ended(reading: Reading) -> Reading
-    ensures { result.held ≡ reading.held }
-{
-    Reading {
-        lines: reading.lines,
-        held: reading.held,
-        going: false,
-    }
-}
-
-// Reads once, and answers what came. A failed read ends the day book.
+// Reads once, and answers what came: how far the day book has come, or `None` at its end.
 fn answer_some<R: Read, W: Write>(
     index: &mut [u8],
     keys: &mut [u64],
@@ -31,27 +20,16 @@ fn answer_some<R: Read, W: Write>(
     reading: Reading,
     input: &mut R,
     output: &mut W,
-) -> Reading
+) -> io::Result<Option<Reading>>
     requires { Between held.old out.old reading }
-    ensures { Between held.new out.new result }
+    ensures { IfOk result (λ o. IfSome o (λ next. Between held.new out.new next)) }
 {
     if reading.lines > MAX_LINES {
-        return ended(reading);
+        return Ok(None);
     }
     let mut chunk = [0u8; 65536];
-    match input.read(&mut chunk) {
-        Ok(n) => book_output::answer_read(
-            index,
-            keys,
-            used,
-            &chunk[..n],
-            held,
-            out,
-            reading,
-            output,
-        ),
-        Err(_) => ended(reading),
-    }
+    let n = input.read(&mut chunk)?;
+    book_output::answer_read(index, keys, used, &chunk[..n], held, out, reading, output)
 }
 
 // All of the input, chunk after chunk. A proved loop has to end, and nothing says that the input does: so the turns are counted up to a number
@@ -62,21 +40,19 @@ fn answer_all<R: Read, W: Write>(
     used: &mut [u8],
     held: &mut [u8],
     out: &mut [u8],
-    reading: Reading,
+    mut reading: Reading,
     input: &mut R,
     output: &mut W,
-) -> Reading
+) -> io::Result<()>
     requires { Between held.old out.old reading }
-    ensures { Between held.new out.new result }
 {
-    let mut r = reading;
     for _ in 0..u64::MAX {
-        if !r.going {
-            return r;
+        match answer_some(index, keys, used, held, out, reading, input, output)? {
+            Some(next) => reading = next,
+            None => break,
         }
-        r = answer_some(index, keys, used, held, out, r, input, output);
     }
-    r
+    Ok(())
 }
 
 fn main(rt: HostRuntime) {
@@ -86,18 +62,14 @@ fn main(rt: HostRuntime) {
     let mut held = [0u8; 81];
     let mut out = [0u8; 65536];
     table_format::format(&mut index, &mut keys, &mut used, 64, 60, 250);
-    let begun = Reading {
-        lines: 0,
-        held: 0,
-        going: true,
-    };
-    answer_all(
+    // A read or a write that fails ends the day book where it is, as the end of the input does.
+    let _ = answer_all(
         &mut index,
         &mut keys,
         &mut used,
         &mut held,
         &mut out,
-        begun,
+        Reading::default(),
         &mut rt.stdin(),
         &mut rt.stdout(),
     );

@@ -1,7 +1,8 @@
 -- Piece after piece the lines of the chunk are told to the library, and the place goes on. Assumes nothing.
 use Rattle.std.proofs.Common.{length, ◌-◌}
 use Rattle.day_book.specs.LineAnswers.{tables}
-use Rattle.book_output.proofs.Pieces.{Through, at_front}
+use Rattle.book_output.specs.Readings.{at_front}
+use Rattle.book_output.proofs.Pieces.{Through}
 use Rattle.book_output.proofs.answer_pieces.Given as goal
 
 abbrev pub invariant-loop-p : goal.invariant-loop-p
