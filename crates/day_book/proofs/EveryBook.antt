@@ -7,6 +7,7 @@ use contract.Lifetimes.{Lfts}
 use denote.Bor.{Bor}
 use denote.MutBor.{MutBor}
 use lib.ListN.{length, take}
+use Rattle.std.specs.Prelude.{Result, Ok, Err}
 use Rattle.table_find.specs.declared.answer.Answer.{Answer}
 use Rattle.table_format.specs.Format.{format_fits, FormatDoes}
 use Rattle.table_format.proofs.EmptySound.{format_sound, format_lengths, format_width, format_empties}
@@ -17,8 +18,10 @@ use Rattle.tag_index.specs.Claims.{Agrees}
 use Rattle.tag_index.proofs.Runs.{Lent}
 use Rattle.tag_index.proofs.MapSteps.{Holds, on_does_step, off_does_step, find_does_step, list_does_step}
 use Rattle.tag_index.proofs.Histories.{agrees}
-use Rattle.book_lines.specs.declared.Said.{Said}
-use Rattle.book_lines.specs.declared.Said.TheVariants.{On, Off, Find, List as Lists, Bad, OutOfRange}
+use Rattle.book_lines.specs.declared.Call.{Call}
+use Rattle.book_lines.specs.declared.Call.TheVariants.{On, Off, Find, List as Lists}
+use Rattle.book_lines.specs.declared.Declined.{Declined}
+use Rattle.book_lines.specs.declared.Declined.TheVariants.{Bad, OutOfRange}
 use Rattle.book_lines.specs.Lines.{meaning}
 use Rattle.day_book.specs.Books.{Shown, number_alone, find_shown, list_shown, answer_in, slice_in, map_shown, map_said, feed_of_said, shown_line, printed, map_behind_lines}
 use Rattle.day_book.specs.LineAnswers.{SaidShown, LineDoes, Told}
@@ -28,25 +31,25 @@ use Rattle.day_book.proofs.answer_line.Reads as answer_line_reads
 -- ---- one line
 
 -- What a line says is answered as the map answers it.
-pub record SaidStep (z : Sizes) (f : Feed) (m : OrderedMap) (x : Said) (s : Shown) (u : Tables) : Type 0 where
+pub record SaidStep (z : Sizes) (f : Feed) (m : OrderedMap) (x : Result Call Declined) (s : Shown) (u : Tables) : Type 0 where
   pub shown : s ≡ map_shown z f m x
   pub holds : Holds z (map_said z f m x) u
 
-pub said_step : {z : Sizes} {m : OrderedMap} {t u : Tables} {s : Shown} → Holds z m t → (x : Said) → SaidShown x t u s → SaidStep z (feed_of_said t x) m x s u
-said_step h (On key r) d =
+pub said_step : {z : Sizes} {m : OrderedMap} {t u : Tables} {s : Shown} → Holds z m t → (x : Result Call Declined) → SaidShown x t u s → SaidStep z (feed_of_said t x) m x s u
+said_step h (Ok (On key r)) d =
     let step = on_does_step h d.does in
     record { shown = d.shows ∙ ap (λ (y : Reply). number_alone (answer_in y).number) step.reply; holds = step.holds }
-said_step h (Off key) d =
+said_step h (Ok (Off key)) d =
     let step = off_does_step {f = nothing_fed} h d.does in
     record { shown = d.shows ∙ ap (λ (y : Reply). number_alone (answer_in y).number) step.reply; holds = step.holds }
-said_step {z} {m} h (Find key) d =
+said_step {z} {m} h (Ok (Find key)) d =
     let step = find_does_step {f = nothing_fed} h d.does in
     record { shown = d.shows ∙ ap (λ (y : Reply). find_shown (answer_in y)) step.reply; holds = subst (Holds z m) (sym d.kept) step.holds }
-said_step {z} {m} h (Lists a b) d =
+said_step {z} {m} h (Ok (Lists a b)) d =
     let step = list_does_step {f = nothing_fed} h d.does in
     record { shown = d.shows ∙ ap (λ (y : Reply). list_shown (answer_in y) (slice_in y)) step.reply; holds = subst (Holds z m) (sym d.kept) step.holds }
-said_step {z} {m} h Bad d = record { shown = d.shows; holds = subst (Holds z m) (sym d.kept) h }
-said_step {z} {m} h OutOfRange d = record { shown = d.shows; holds = subst (Holds z m) (sym d.kept) h }
+said_step {z} {m} h (Err Bad) d = record { shown = d.shows; holds = subst (Holds z m) (sym d.kept) h }
+said_step {z} {m} h (Err OutOfRange) d = record { shown = d.shows; holds = subst (Holds z m) (sym d.kept) h }
 
 -- A line is given to the library: the contract of the function that runs, on slices that hold the tables and the line; bytes is the answer line.
 pub record Answers (t : Tables) (line : List ℕ) (n : ℕ) (u : Tables) (bytes : List ℕ) : Type 0 where

@@ -1,5 +1,5 @@
 -- What is shown of each call can be written, and is. Assumes nothing.
-use mathlib.Core.Path.{◌≡◌, refl, sym, subst}
+use mathlib.Core.Path.{◌≡◌, refl, sym, ap, subst, ◌∙◌}
 use mathlib.Core.Bool.{Bool, true, false, cond, ◌&&◌, ◌||◌}
 use mathlib.Core.Option.{Option, none, some}
 use mathlib.Core.List.{List, [], ◌∷◌, ◌++◌}
@@ -7,6 +7,7 @@ use Prim.Native.Nat.{ℕ, zero, suc, ◌≤◌}
 use native.Mathlib.Omega.{arith}
 use lib.Dec.{eqb, leb}
 use lib.ListN.{length, take, drop, replicate, length-take}
+use Rattle.std.specs.Prelude.{Result, Ok, Err}
 use Rattle.leaf_list.specs.Herd.{Herd, lookup, records_of}
 use Rattle.leaf_list.specs.Register.{in_use, herd_of}
 use Rattle.leaf_list.proofs.RegisterHerd.{herd_of_holds, lookup_holds}
@@ -20,11 +21,12 @@ use Rattle.table_list.specs.Ranges.{between, records_between, listed, list_slice
 use Rattle.tag_index.specs.Reading.{first_row, behind, kept_behind, FindDoes, ListDoes}
 use Rattle.table_change.specs.Changes.{too_wide}
 use Rattle.book_answers.specs.Writing.{RecordNumbers, Writable, AnswerWritten}
-use Rattle.day_book.specs.Books.{Shown, slice}
+use Rattle.day_book.specs.Books.{Shown, number_alone, slice}
 use Rattle.tag_index.specs.Tables.{Tables}
-use Rattle.book_lines.specs.declared.Said.{Said}
-use Rattle.book_lines.specs.declared.Said.TheVariants.{Bad, OutOfRange}
-use Rattle.book_lines.specs.Lines.{meaning}
+use Rattle.book_lines.specs.declared.Call.{Call}
+use Rattle.book_lines.specs.declared.Declined.{Declined}
+use Rattle.book_lines.specs.declared.Declined.TheVariants.{Bad, OutOfRange}
+use Rattle.book_lines.specs.Lines.{declined_number, meaning}
 use Rattle.day_book.specs.LineAnswers.{ShownAt, Shows, SaidShown, NoneDoes, LineDoes}
 
 -- An answer line that was written shows what it says.
@@ -108,12 +110,19 @@ module _ {index keys used : List ℕ} {a b : ℕ} {out : List ℕ} {r : Answer} 
 
 -- ---- a line, by what it says
 
-pub said_line : {t u : Tables} {n : ℕ} {out out₁ : List ℕ} {r : ℕ} (line : List ℕ) (x : Said) → x ≡ meaning line → Shows (SaidShown x t u) n out out₁ r → LineDoes t line n out u out₁ r
-said_line {t} {u} {n} {out} {out₁} {r} line x e h = record { shows = subst (λ (y : Said). Shows (SaidShown y t u) n out out₁ r) e h }
+pub said_line : {t u : Tables} {n : ℕ} {out out₁ : List ℕ} {r : ℕ} (line : List ℕ) (x : Result Call Declined) → x ≡ meaning line → Shows (SaidShown x t u) n out out₁ r → LineDoes t line n out u out₁ r
+said_line {t} {u} {n} {out} {out₁} {r} line x e h = record { shows = subst (λ (y : Result Call Declined). Shows (SaidShown y t u) n out out₁ r) e h }
+
+-- A call is asked for.
+pub said_call : {t u : Tables} {n : ℕ} {out out₁ : List ℕ} {r : ℕ} (line : List ℕ) (x : Call) {y : Call} → Ok y ≡ meaning line → y ≡ x → Shows (SaidShown (Ok x) t u) n out out₁ r
+    → LineDoes t line n out u out₁ r
+said_call line x e f h = said_line line (Ok x) (rw (← f) e) h
 
 -- No call is asked for.
-pub bad_line : {t : Tables} {n : ℕ} {out out₁ : List ℕ} {r : ℕ} (line : List ℕ) → Bad ≡ meaning line → NoneDoes 10 n out out₁ r → LineDoes t line n out t out₁ r
-bad_line line e h = said_line line Bad e (record { shown = h.shown; does = record { shows = h.does; kept = refl }; written = h.written })
-
-pub outside_line : {t : Tables} {n : ℕ} {out out₁ : List ℕ} {r : ℕ} (line : List ℕ) → OutOfRange ≡ meaning line → NoneDoes 11 n out out₁ r → LineDoes t line n out t out₁ r
-outside_line line e h = said_line line OutOfRange e (record { shown = h.shown; does = record { shows = h.does; kept = refl }; written = h.written })
+pub line_declined : {t : Tables} {n : ℕ} {out out₁ : List ℕ} {r refusal : ℕ} (line : List ℕ) (e : Declined) → Err e ≡ meaning line → refusal ≡ declined_number e
+    → NoneDoes refusal n out out₁ r
+    → LineDoes t line n out t out₁ r
+line_declined line Bad e f h =
+    said_line line (Err Bad) e (record { shown = h.shown; does = record { shows = h.does ∙ ap number_alone f; kept = refl }; written = h.written })
+line_declined line OutOfRange e f h =
+    said_line line (Err OutOfRange) e (record { shown = h.shown; does = record { shows = h.does ∙ ap number_alone f; kept = refl }; written = h.written })

@@ -4,9 +4,11 @@ use mathlib.Core.List.{List, [], ◌∷◌, ◌++◌, map, append_assoc, append-
 use Prim.Native.Nat.{ℕ, suc, ◌+◌}
 use native.Mathlib.Omega.{arith}
 use lib.ListN.{length, take}
+use Rattle.std.specs.Prelude.{Result}
 use Rattle.tag_index.specs.Tables.{Tables}
 use Rattle.tag_index.specs.Histories.{Feed}
-use Rattle.book_lines.specs.declared.Said.{Said}
+use Rattle.book_lines.specs.declared.Call.{Call}
+use Rattle.book_lines.specs.declared.Declined.{Declined}
 use Rattle.book_lines.specs.Lines.{meaning}
 use Rattle.book_lines.proofs.LineLaws.{says_cut}
 use Rattle.day_book.specs.Books.{Shown, feed_of_said, shown_line}
@@ -36,5 +38,5 @@ told_cut {t} {v} {n} {feeds} {out} (line ∷ lines) told = go line lines feeds o
         → Told t n (take 81 line ∷ map (take 81) lines) feeds out v
         → Told t n (line ∷ lines) feeds out v
     go line lines feeds' out' rest (next {u = u} {out = out} {feeds = feeds} s h a) =
-        subst (λ (x : Said). Told t n (line ∷ lines) (feed_of_said t x ∷ feeds) (shown_line n s ++ out) v) (sym (says_cut line))
-        (next {line = line} s (subst (λ (x : Said). SaidShown x t u s) (says_cut line) h) (rest u feeds out a))
+        subst (λ (x : Result Call Declined). Told t n (line ∷ lines) (feed_of_said t x ∷ feeds) (shown_line n s ++ out) v) (sym (says_cut line))
+        (next {line = line} s (subst (λ (x : Result Call Declined). SaidShown x t u s) (says_cut line) h) (rest u feeds out a))

@@ -1,11 +1,13 @@
 -- The day book (01, "Day-book program"): what it prints for each line, by the ordered map. Assumes nothing.
-use Rattle.std.specs.Prelude.{Bool, false, cond, List, [], ◌∷◌, ◌++◌, ℕ, suc, eqb, take, replicate}
+use Rattle.std.specs.Prelude.{Result, Ok, Err, Bool, false, cond, List, [], ◌∷◌, ◌++◌, ℕ, suc, eqb, take, replicate}
 use Rattle.table_find.specs.declared.answer.Answer.{Answer}
 use Rattle.table_find.specs.Answers.{plain}
 use Rattle.tag_index.specs.Tables.{Tables}
 use Rattle.tag_index.specs.Histories.{on, off, find, list, Reply, answered, sliced, said, OrderedMap, Sizes, Feed, nothing_fed, on_fed, map_reply, map_after}
-use Rattle.book_lines.specs.declared.Said.{Said}
-use Rattle.book_lines.specs.declared.Said.TheVariants.{On, Off, Find, List as Lists, Bad, OutOfRange}
+use Rattle.book_lines.specs.declared.Call.{Call}
+use Rattle.book_lines.specs.declared.Call.TheVariants.{On, Off, Find, List as Lists}
+use Rattle.book_lines.specs.declared.Declined.{Declined}
+use Rattle.book_lines.specs.declared.Declined.TheVariants.{Bad, OutOfRange}
 use Rattle.book_lines.specs.Lines.{meaning}
 use Rattle.book_answers.specs.Answers.{answer_line}
 
@@ -41,31 +43,29 @@ slice_in (sliced a out) = out
 slice_in (said b) = []
 
 -- What the map shows for what a line says: "10 .. bad line", "11 .. country above 999, or a field too large for its bits", both before the calls.
-abbrev pub map_shown : Sizes → Feed → OrderedMap → Said → Shown
-map_shown z f m (On key r) = number_alone (answer_in (map_reply z f m (on key r))).number
-map_shown z f m (Off key) = number_alone (answer_in (map_reply z f m (off key))).number
-map_shown z f m (Find key) = find_shown (answer_in (map_reply z f m (find key)))
-map_shown z f m (Lists a b) = list_shown (answer_in (map_reply z f m (list a b slice))) (slice_in (map_reply z f m (list a b slice)))
-map_shown z f m Bad = number_alone 10
-map_shown z f m OutOfRange = number_alone 11
+abbrev pub map_shown : Sizes → Feed → OrderedMap → Result Call Declined → Shown
+map_shown z f m (Ok (On key r)) = number_alone (answer_in (map_reply z f m (on key r))).number
+map_shown z f m (Ok (Off key)) = number_alone (answer_in (map_reply z f m (off key))).number
+map_shown z f m (Ok (Find key)) = find_shown (answer_in (map_reply z f m (find key)))
+map_shown z f m (Ok (Lists a b)) = list_shown (answer_in (map_reply z f m (list a b slice))) (slice_in (map_reply z f m (list a b slice)))
+map_shown z f m (Err Bad) = number_alone 10
+map_shown z f m (Err OutOfRange) = number_alone 11
 
 -- The map behind it.
-abbrev pub map_said : Sizes → Feed → OrderedMap → Said → OrderedMap
-map_said z f m (On key r) = map_after z f m (on key r)
-map_said z f m (Off key) = map_after z f m (off key)
-map_said z f m (Find key) = map_after z f m (find key)
-map_said z f m (Lists a b) = map_after z f m (list a b slice)
-map_said z f m Bad = m
-map_said z f m OutOfRange = m
+abbrev pub map_said : Sizes → Feed → OrderedMap → Result Call Declined → OrderedMap
+map_said z f m (Ok (On key r)) = map_after z f m (on key r)
+map_said z f m (Ok (Off key)) = map_after z f m (off key)
+map_said z f m (Ok (Find key)) = map_after z f m (find key)
+map_said z f m (Ok (Lists a b)) = map_after z f m (list a b slice)
+map_said z f m (Err declined) = m
 
 -- What the map is fed of the tables that an on gets.
-abbrev pub feed_of_said : Tables → Said → Feed
-feed_of_said t (On key r) = on_fed t key r
-feed_of_said t (Off key) = nothing_fed
-feed_of_said t (Find key) = nothing_fed
-feed_of_said t (Lists a b) = nothing_fed
-feed_of_said t Bad = nothing_fed
-feed_of_said t OutOfRange = nothing_fed
+abbrev pub feed_of_said : Tables → Result Call Declined → Feed
+feed_of_said t (Ok (On key r)) = on_fed t key r
+feed_of_said t (Ok (Off key)) = nothing_fed
+feed_of_said t (Ok (Find key)) = nothing_fed
+feed_of_said t (Ok (Lists a b)) = nothing_fed
+feed_of_said t (Err declined) = nothing_fed
 
 -- "For each line it prints line number from 1, answer number (0 if done), then .."
 abbrev pub shown_line : ℕ → Shown → List ℕ

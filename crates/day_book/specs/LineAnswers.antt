@@ -1,12 +1,14 @@
 -- What the library does with one line of a day book (01, "Day-book program"). Assumes nothing.
-use Rattle.std.specs.Prelude.{◌≡◌, List, [], ◌∷◌, ◌++◌, ℕ, suc, ◌≤◌, length, take, drop}
+use Rattle.std.specs.Prelude.{Result, Ok, Err, ◌≡◌, List, [], ◌∷◌, ◌++◌, ℕ, suc, ◌≤◌, length, take, drop}
 use Rattle.table_find.specs.declared.answer.Answer.{Answer}
 use Rattle.tag_index.specs.Changing.{OnDoes, OffDoes}
 use Rattle.tag_index.specs.Reading.{FindDoes, ListDoes}
 use Rattle.tag_index.specs.Tables.{Tables}
 use Rattle.tag_index.specs.Histories.{Feed}
-use Rattle.book_lines.specs.declared.Said.{Said}
-use Rattle.book_lines.specs.declared.Said.TheVariants.{On, Off, Find, List as Lists, Bad, OutOfRange}
+use Rattle.book_lines.specs.declared.Call.{Call}
+use Rattle.book_lines.specs.declared.Call.TheVariants.{On, Off, Find, List as Lists}
+use Rattle.book_lines.specs.declared.Declined.{Declined}
+use Rattle.book_lines.specs.declared.Declined.TheVariants.{Bad, OutOfRange}
 use Rattle.book_lines.specs.Lines.{meaning}
 use Rattle.day_book.specs.Books.{Shown, number_alone, find_shown, slice, list_shown, feed_of_said, shown_line}
 
@@ -41,13 +43,13 @@ pub record NoneShown (n : ℕ) (t u : Tables) (s : Shown) : Type 0 where
   pub shows : s ≡ number_alone n
   pub kept : u ≡ t
 
-abbrev pub SaidShown : Said → Tables → Tables → Shown → Type 0
-SaidShown (On key r) t u s = OnShown key r t u s
-SaidShown (Off key) t u s = OffShown key t u s
-SaidShown (Find key) t u s = FindShown key t u s
-SaidShown (Lists a b) t u s = ListShown a b t u s
-SaidShown Bad t u s = NoneShown 10 t u s
-SaidShown OutOfRange t u s = NoneShown 11 t u s
+abbrev pub SaidShown : Result Call Declined → Tables → Tables → Shown → Type 0
+SaidShown (Ok (On key r)) t u s = OnShown key r t u s
+SaidShown (Ok (Off key)) t u s = OffShown key t u s
+SaidShown (Ok (Find key)) t u s = FindShown key t u s
+SaidShown (Ok (Lists a b)) t u s = ListShown a b t u s
+SaidShown (Err Bad) t u s = NoneShown 10 t u s
+SaidShown (Err OutOfRange) t u s = NoneShown 11 t u s
 
 -- What is shown stands at the front of out as an answer line of r bytes; the rest of out is kept.
 pub record ShownAt (n : ℕ) (s : Shown) (out out₁ : List ℕ) (r : ℕ) : Type 0 where

@@ -5,7 +5,7 @@ ghost use Rattle.std.specs.Prelude.{◌≤◌, length};
 ghost use Rattle.day_book.specs.LineAnswers.{tables, OnLineDoes, OffLineDoes, FindLineDoes, ListLineDoes, NoneDoes, LineDoes};
 
 use book_answers::write_answer;
-use book_lines::Said;
+use book_lines::Call;
 
 // An `on` line.
 fn on_line(
@@ -99,23 +99,10 @@ pub fn answer_line(
     ensures { LineDoes (tables index.old keys.old used.old) line.now number out.old (tables index.new keys.new used.new) out.new result }
 {
     match book_lines::read_line(line) {
-        Said::On { key, record } => {
-            return on_line(index, keys, used, key, record, number, out);
-        }
-        Said::Off { key } => {
-            return off_line(index, keys, used, key, number, out);
-        }
-        Said::Find { key } => {
-            return find_line(index, keys, used, key, number, out);
-        }
-        Said::List { from, to } => {
-            return list_line(index, keys, used, from, to, number, out);
-        }
-        Said::Bad => {
-            return declined_line(10, number, out);
-        }
-        Said::OutOfRange => {
-            return declined_line(11, number, out);
-        }
+        Ok(Call::On { key, record }) => on_line(index, keys, used, key, record, number, out),
+        Ok(Call::Off { key }) => off_line(index, keys, used, key, number, out),
+        Ok(Call::Find { key }) => find_line(index, keys, used, key, number, out),
+        Ok(Call::List { from, to }) => list_line(index, keys, used, from, to, number, out),
+        Err(declined) => declined_line(declined.number(), number, out),
     }
 }

@@ -1,28 +1,24 @@
 -- A line is answered as what it says. Assumes nothing.
 use mathlib.Core.Path.{sym, ◌∙◌}
-use Rattle.day_book.proofs.Showing.{said_line, bad_line, outside_line}
+use Rattle.day_book.proofs.Showing.{said_call, line_declined}
 use Rattle.day_book.proofs.answer_line.Goals as goal
 
-pub returns-in-On : goal.returns-in-On
-returns-in-On c =
-    said_line _ _ (sym c.in-On.is ∙ c.read_line.ensures) c.on_line.ensures
+pub returns-in-Ok-On : goal.returns-in-Ok-On
+returns-in-Ok-On c =
+    said_call _ _ (sym c.in-Ok-On.is ∙ c.read_line.ensures) c.in-Ok-On.field-0-is c.on_line.ensures
 
-pub returns-in-Off : goal.returns-in-Off
-returns-in-Off c =
-    said_line _ _ (sym c.in-Off.is ∙ c.read_line.ensures) c.off_line.ensures
+pub returns-in-Ok-Off : goal.returns-in-Ok-Off
+returns-in-Ok-Off c =
+    said_call _ _ (sym c.in-Ok-Off.is ∙ c.read_line.ensures) c.in-Ok-Off.field-0-is c.off_line.ensures
 
-pub returns-in-Find : goal.returns-in-Find
-returns-in-Find c =
-    said_line _ _ (sym c.in-Find.is ∙ c.read_line.ensures) c.find_line.ensures
+pub returns-in-Ok-Find : goal.returns-in-Ok-Find
+returns-in-Ok-Find c =
+    said_call _ _ (sym c.in-Ok-Find.is ∙ c.read_line.ensures) c.in-Ok-Find.field-0-is c.find_line.ensures
 
-pub returns-in-List : goal.returns-in-List
-returns-in-List c =
-    said_line _ _ (sym c.in-List.is ∙ c.read_line.ensures) c.list_line.ensures
+pub returns-in-Ok-List : goal.returns-in-Ok-List
+returns-in-Ok-List c =
+    said_call _ _ (sym c.in-Ok-List.is ∙ c.read_line.ensures) c.in-Ok-List.field-0-is c.list_line.ensures
 
-pub returns-in-Bad : goal.returns-in-Bad
-returns-in-Bad c =
-    bad_line _ (sym c.in-Bad.is ∙ c.read_line.ensures) c.declined_line.ensures
-
-pub returns-in-OutOfRange : goal.returns-in-OutOfRange
-returns-in-OutOfRange c =
-    outside_line _ (sym c.in-OutOfRange.is ∙ c.read_line.ensures) c.declined_line-in-OutOfRange.ensures
+pub returns-in-Err : goal.returns-in-Err
+returns-in-Err c =
+    line_declined _ _ (sym c.in-Err.is ∙ c.read_line.ensures) c.number.ensures c.declined_line.ensures
