@@ -3,7 +3,7 @@ use mathlib.Core.Path.{◌≡◌, refl, sym, ap, ap₂, subst, ◌∙◌}
 use mathlib.Core.Logic.{◌⊎◌, inl, inr}
 use mathlib.Core.Bool.{Bool, true, false, cond, ◌&&◌}
 use mathlib.Core.Option.{none}
-use mathlib.Core.List.{List, [], ◌∷◌, ◌++◌, map, map-append, zip, append_assoc, append-nil}
+use mathlib.Core.List.{List, [], ◌∷◌, ◌++◌, map, zip, append_assoc, append-nil}
 use Prim.Native.Nat.{ℕ, zero, suc, ◌+◌, ◌-◌, ◌*◌, ◌/◌, ◌%◌, ◌^◌, ◌≤◌, ◌<◌}
 use native.Mathlib.Omega.{arith}
 use native.Mathlib.Nat.{mod-lt, le_trans, lt_of_le_of_lt, lt_of_lt_of_le, div-le_self, div-eq_of_lt, add-mul, mul_assoc}
@@ -18,6 +18,7 @@ use Rattle.leaf_list.specs.Entries.{Entry, entry}
 use Rattle.leaf_list.specs.Search.{positions}
 use Rattle.leaf_list.specs.Insertion.{dummies}
 use Rattle.leaf_list.proofs.Bits.{bits_length}
+use Rattle.leaf_list.proofs.InsertionCount.{dummies_count}
 use Rattle.page_tree.proofs.RowLaws.{Full, full_set, stored_behind}
 use Rattle.byte_moves.specs.Over.{over}
 use Rattle.byte_moves.proofs.OverLaws.{over_none, over_append}
@@ -67,13 +68,6 @@ dummies_none low high p (true ∷ k) rest h = dummies_high low high (suc p) (pos
 
 -- ---- as the code goes through them
 
--- From the first position behind low on.
-dummies_begin : (w key low high p : ℕ) → low ≤ w → NextPosition w key low p → dummies low high (positions 0 (bits w key)) [] ≡ dummies low high (left_from w key p) []
-dummies_begin w key low high p h next =
-    let z : 0 + low ≡ low = omega arith in
-    rw z at (dummies_skip high 0 low (bits w key) [] (omega (arith, bits_length w key)))
-    ∙ ap (λ (ps : List ℕ). dummies low high ps []) next.left
-
 -- One more.
 pub dummies_next : (w key low high p r : ℕ) → low < p → p < high → p ≤ w → NextPosition w key p r
     → dummies low high (left_from w key p) [] ≡ entry p none ∷ dummies low high (left_from w key r) []
@@ -105,42 +99,6 @@ dummies_begun w key low high p h next =
     (ap (λ (ps : List ℕ). dummies 0 high ps []) (sym next.left)
     ∙ sym (dummies_above low high low (drop low (bits w key)) (omega arith))
     ∙ sym (rw z at (dummies_skip high 0 low (bits w key) [] (omega (arith, bits_length w key)))))
-
--- The dummies es stand before the position p.
-pub record Passing (w key low high p : ℕ) (es : List Entry) : Type 0 where
-  pub left : es ++ dummies low high (left_from w key p) [] ≡ dummies low high (positions 0 (bits w key)) []
-  pub above : low < p
-  pub inside : p ≤ suc w
-  pub few : length es + suc low ≤ p
-
-passing_none : (w key low high p : ℕ) → low ≤ w → NextPosition w key low p → Passing w key low high p []
-passing_none w key low high p h next =
-    record { left = sym (dummies_begin w key low high p h next); above = next.above; inside = omega (arith, next.within); few = omega (arith, next.above) }
-
-passing_more : {w key low high p r : ℕ} {es : List Entry} → p < high → high ≤ suc w → NextPosition w key p r → Passing w key low high p es → Passing w key low high r (es ++ entry p none ∷ [])
-passing_more {w} {key} {low} {high} {p} {r} {es} g s next h =
-    record {
-      left =
-          append_assoc es (entry p none ∷ []) (dummies low high (left_from w key r) [])
-          ∙ ap (λ (z : List Entry). es ++ z) (sym (dummies_next w key low high p r h.above g (omega (arith, s)) next))
-          ∙ h.left;
-      above = omega (arith, h.above, next.above);
-      inside = omega (arith, next.within);
-      few = omega (arith, h.few, next.above, length-append es (entry p none ∷ []));
-    }
-
--- One more is to come.
-passing_some : {w key low high p : ℕ} {es : List Entry} → p < high → Passing w key low high p es → suc (length es) ≤ length (dummies low high (positions 0 (bits w key)) [])
-passing_some {w} {key} {low} {high} {p} {es} g h =
-    omega (
-      arith,
-      ap length h.left,
-      length-append es (dummies low high (left_from w key p) []),
-      ap length (dummies_between low high p (later w key p) [] h.above g),
-    )
-
-passing_all : {w key low high p : ℕ} {es : List Entry} → high ≤ p → Passing w key low high p es → es ≡ dummies low high (positions 0 (bits w key)) []
-passing_all {w} {key} {low} {high} {p} {es} g h = sym (append-nil es) ∙ ap (λ (z : List Entry). es ++ z) (sym (dummies_end w key low high p g)) ∙ h.left
 
 -- No position is between a depth and itself.
 pub dummies_same : (b : ℕ) (ps : List ℕ) (rest : List Entry) → dummies b b ps rest ≡ rest
@@ -254,36 +212,44 @@ module _ {b₀ : List ℕ} {at : ℕ} {es : List Entry} {b : List ℕ} {next : �
 
 -- ---- in a row
 
--- The first n places are the entries es₀, m of them, and behind them the dummies before the position p.
-pub record Dummying (w key low high m : ℕ) (es₀ : List Ref) (n p : ℕ) (ds ps : List ℕ) : Type 0 where
-  pub es : List Entry
-  pub passing : Passing w key low high p es
+-- Of the dummies es, xs stand behind the m entries es₀ of a row, and ys are left.
+pub record Dummying (es₀ : List Ref) (m : ℕ) (es : List Entry) (n : ℕ) (ds ps : List ℕ) (ys : List Ref) : Type 0 where
+  pub xs : List Ref
+  pub left : xs ++ ys ≡ map ref_of es
   pub full : Full ds ps
-  pub count : n ≡ m + length es
-  pub entries : take n (zip ds ps) ≡ es₀ ++ map ref_of es
+  pub count : n ≡ m + length xs
+  pub entries : take n (zip ds ps) ≡ es₀ ++ xs
 
-pub dummying_none : (w key low high n p : ℕ) (ds ps : List ℕ) → Full ds ps → low ≤ w → NextPosition w key low p → Dummying w key low high n (take n (zip ds ps)) n p ds ps
-dummying_none w key low high n p ds ps full h next =
-    record { es = []; passing = passing_none w key low high p h next; full = full; count = omega arith; entries = sym (append-nil (take n (zip ds ps))) }
+pub dummying_none : (n : ℕ) (ds ps : List ℕ) → Full ds ps → {es : List Entry} {ys : List Ref} → ys ≡ map ref_of es → Dummying (take n (zip ds ps)) n es n ds ps ys
+dummying_none n ds ps full h = record { xs = []; left = h; full = full; count = omega arith; entries = sym (append-nil (take n (zip ds ps))) }
 
-pub dummying_few : {w key low high m : ℕ} {es₀ : List Ref} {n p : ℕ} {ds ps : List ℕ} → Dummying w key low high m es₀ n p ds ps → n + suc low ≤ m + p
-dummying_few h = omega (arith, h.count, h.passing.few)
+module _ {es₀ : List Ref} {m : ℕ} {es : List Entry} {n : ℕ} {ds ps : List ℕ} {ys : List Ref} (h : Dummying es₀ m es n ds ps ys) where
+  -- So many are left.
+  pub dummying_left : n + length ys ≡ m + length es
+  dummying_left = omega (arith, h.count, ap length h.left, length-append h.xs ys, length-map es ref_of)
 
-pub dummying_more : {w key low high m : ℕ} {es₀ : List Ref} {n p r : ℕ} {ds ps : List ℕ} → n < 319 → p < high → high ≤ suc w → NextPosition w key p r
-    → Dummying w key low high m es₀ n p ds ps → Dummying w key low high m es₀ (n + 1) r (set ds n p) (set ps n 65535)
-dummying_more {w} {key} {low} {high} {m} {es₀} {n} {p} {r} {ds} {ps} l g s next h =
-    record {
-      es = h.es ++ entry p none ∷ [];
-      passing = passing_more g s next h.passing;
-      full = full_set ds ps n p 65535 h.full;
-      count = omega (arith, h.count, length-append h.es (entry p none ∷ []));
-      entries =
-          stored_behind ds ps h.full n p 65535 l
-          ∙ ap (λ (z : List Ref). z ++ (p, 65535) ∷ []) h.entries
-          ∙ append_assoc es₀ (map ref_of h.es) ((p, 65535) ∷ [])
-          ∙ ap (λ (z : List Ref). es₀ ++ z) (sym (map-append ref_of h.es (entry p none ∷ [])));
-    }
+  pub dummying_more : n < 319 → {x : Ref} {zs : List Ref} → ys ≡ x ∷ zs → Dummying es₀ m es (n + 1) (set ds n x.0) (set ps n x.1) zs
+  dummying_more l {x} {zs} e = record {
+    xs = h.xs ++ x ∷ [];
+    left = append_assoc h.xs (x ∷ []) zs ∙ ap (λ (z : List Ref). h.xs ++ z) (sym e) ∙ h.left;
+    full = full_set ds ps n x.0 x.1 h.full;
+    count = omega (arith, h.count, length-append h.xs (x ∷ []));
+    entries =
+        stored_behind ds ps h.full n x.0 x.1 l
+        ∙ ap (λ (z : List Ref). z ++ x ∷ []) h.entries
+        ∙ append_assoc es₀ h.xs (x ∷ []);
+  }
 
-pub dummying_all : {w key low high m : ℕ} {es₀ : List Ref} {n p : ℕ} {ds ps : List ℕ} → high ≤ p → Dummying w key low high m es₀ n p ds ps
-    → (n ≡ m + length (dummies low high (positions 0 (bits w key)) [])) × (take n (zip ds ps) ≡ es₀ ++ map ref_of (dummies low high (positions 0 (bits w key)) []))
-dummying_all g h = let e = passing_all g h.passing in (rw (← e) h.count, rw (← e) h.entries)
+  pub dummying_all : ys ≡ [] → (n ≡ m + length es) × (take n (zip ds ps) ≡ es₀ ++ map ref_of es)
+  dummying_all e =
+      let whole : h.xs ≡ map ref_of es = sym (append-nil h.xs) ∙ ap (λ (z : List Ref). h.xs ++ z) (sym e) ∙ h.left in
+      (omega (arith, h.count, ap length whole, length-map es ref_of), rw (← whole) h.entries)
+
+-- There are at most as many as bits.
+pub dummies_few : (w key low high : ℕ) → high ≤ suc w → length (dummies low high (positions 0 (bits w key)) []) ≤ w
+dummies_few w key low high h = omega (arith, dummies_count (bits w key) 0 low high [])
+
+-- So a row of at most 100 entries has room for the next.
+pub dummying_room : (w key low high : ℕ) {m n : ℕ} {es₀ : List Ref} {ds ps : List ℕ} {x : Ref} {ys zs : List Ref} → m ≤ 100 → w ≤ 64 → high ≤ suc w
+    → Dummying es₀ m (dummies low high (positions 0 (bits w key)) []) n ds ps ys → ys ≡ x ∷ zs → n < 319
+dummying_room w key low high few width inside h e = omega (arith, dummying_left h, ap length e, dummies_few w key low high inside)

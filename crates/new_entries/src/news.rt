@@ -52,15 +52,12 @@ fn push_dummies(row: Row, w: u64, key: u64, low: u64, high: u64) -> Row
     ensures { Holds result (row.count + length (dummies low high (positions 0 (bits w key)) [])) (row_of row ++ map ref_of (dummies low high (positions 0 (bits w key)) [])) × (result.count ≤ row.count + w) }
 {
     let mut r = row;
-    let mut n = r.count;
-    let mut p = table_search::next_position(w, key, low);
-    while p < high {
-        r.depths[n] = p as u8;
+    for depth in Dummies::between(w, key, low, high) {
+        let n = r.count;
+        r.depths[n] = depth;
         r.pointers[n] = 65535;
-        n += 1;
-        p = table_search::next_position(w, key, p);
+        r.count = n + 1;
     }
-    r.count = n;
     r
 }
 

@@ -1,21 +1,38 @@
--- The dummies between two depths. Assumes nothing.
-use borrow.Author.Rules.{rules}
-use native.Mathlib.Omega.{arith}
-use Rattle.new_entries.proofs.Dummies.{dummying_none, dummying_more, dummying_all, dummying_few}
+-- The dummies between two depths, behind the entries of a row. Assumes nothing.
+use Rattle.std.proofs.Common.{ap, ◌∙◌, arith, rules}
+use Rattle.new_entries.specs.Entries.{dummies_left}
+use Rattle.new_entries.proofs.Dummies.{dummying_none, dummying_room, dummying_more, dummying_all, dummies_few}
 use Rattle.new_entries.proofs.news.push_dummies.Goals as goal
 
-pub loop-p-init : goal.loop-p-init
-loop-p-init c =
-    let pre = c.requires in
-    (pre.0.width, pre.0.narrow, pre.0.high_inside, pre.1, dummying_none _ _ _ _ _ _ _ _ (search rules, search rules) pre.0.low_inside c.next_position-p.ensures)
+pub loop-depth-init : goal.loop-depth-init
+loop-depth-init c = dummying_none _ _ _ (search rules, search rules) (ap dummies_left c.into_iter-depth-iterator.ensures.into_iter_gives ∙ c.between-depth-items.ensures)
 
-pub loop-p-preserved : goal.loop-p-preserved
-loop-p-preserved c =
-    let inv = c.loop-p.invariant in
-    (inv.0, inv.1, inv.2, inv.3, dummying_more (omega (arith, inv.0, inv.2, inv.3, dummying_few inv.4)) (omega arith) inv.2 c.next_position-p-in-loop-p.ensures inv.4)
+pub bounds-r-n : goal.bounds-r-n
+bounds-r-n c =
+    let room = dummying_room _ _ _ _ c.requires.1 c.requires.0.width c.requires.0.high_inside c.loop-depth.invariant c.in-Some.ensures.steps in
+    omega arith
+
+pub offset_bounds-r-n : goal.offset_bounds-r-n
+offset_bounds-r-n c =
+    let room = dummying_room _ _ _ _ c.requires.1 c.requires.0.width c.requires.0.high_inside c.loop-depth.invariant c.in-Some.ensures.steps in
+    omega arith
+
+pub bounds-r-n-in-loop-depth : goal.bounds-r-n-in-loop-depth
+bounds-r-n-in-loop-depth c =
+    let room = dummying_room _ _ _ _ c.requires.1 c.requires.0.width c.requires.0.high_inside c.loop-depth.invariant c.in-Some.ensures.steps in
+    omega arith
+
+pub overflow_add-r : goal.overflow_add-r
+overflow_add-r c =
+    let room = dummying_room _ _ _ _ c.requires.1 c.requires.0.width c.requires.0.high_inside c.loop-depth.invariant c.in-Some.ensures.steps in
+    omega arith
+
+pub loop-depth-preserved : goal.loop-depth-preserved
+loop-depth-preserved c =
+    dummying_more c.loop-depth.invariant (dummying_room _ _ _ _ c.requires.1 c.requires.0.width c.requires.0.high_inside c.loop-depth.invariant c.in-Some.ensures.steps) c.in-Some.ensures.steps
 
 pub returns : goal.returns
 returns c =
-    let inv = c.loop-p.invariant in
-    let all = dummying_all (omega arith) inv.4 in
-    (record { count = all.0; entries = all.1 }, omega (arith, dummying_few inv.4, inv.4.passing.inside))
+    let all = dummying_all c.loop-depth.invariant c.in-None.ensures.steps.0 in
+    let few = dummies_few c.args.w c.args.key c.args.low c.args.high c.requires.0.high_inside in
+    (record { count = all.0; entries = all.1 }, omega (arith, all.0, few))

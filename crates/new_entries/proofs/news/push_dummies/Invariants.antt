@@ -1,13 +1,14 @@
--- The dummies between two depths. Assumes nothing.
-use Prim.Native.Nat.{suc, ◌-◌, ◌≤◌, ◌<◌, ◌^◌}
-use lib.ListN.{take}
+-- The dummies between two depths, behind the entries of a row. Assumes nothing.
+use Rattle.std.proofs.Common.{[], take}
+use Rattle.leaf_list.specs.Keys.{bits}
+use Rattle.leaf_list.specs.Search.{positions}
+use Rattle.leaf_list.specs.Insertion.{dummies}
 use Rattle.page_tree.specs.Row.{places}
+use Rattle.new_entries.specs.Entries.{dummies_left}
 use Rattle.new_entries.proofs.Dummies.{Dummying}
 use Rattle.new_entries.proofs.news.push_dummies.Given as goal
 
-abbrev pub invariant-loop-p : goal.invariant-loop-p
-invariant-loop-p l =
-    (l.w ≤ 64) × (l.key < 2 ^ l.w) × (l.high ≤ suc l.w) × (l.initial.n ≤ 100) × Dummying l.w l.key l.low l.high l.initial.n (take l.initial.n (places l.initial.r)) l.n l.p l.r.depths l.r.pointers
-
-abbrev pub decreases-loop-p : goal.decreases-loop-p
-decreases-loop-p l = l.high - l.p
+abbrev pub invariant-loop-depth : goal.invariant-loop-depth
+invariant-loop-depth l =
+    Dummying (take l.initial.r.count (places l.initial.r)) l.initial.r.count (dummies l.low l.high (positions 0 (bits l.w l.key)) [])
+    l.r.count l.r.depths l.r.pointers (dummies_left l.depth-iterator)
