@@ -8,11 +8,12 @@ ghost use Rattle.new_entries.specs.Entries.{count_in, DummiesPre, FoundPre, NewP
 use page_tree::Entry;
 use table_search::Leaf;
 
-// The new entries: the leaf of the new record alone; or a dummy for each one-bit p of the key with low < p < first.depth, then the leaves first and
-// second, count entries.
-#[derive(Clone, Copy)]
+// The new entries.
+#[derive(Clone, Copy, Debug, PartialEq, Eq)]
 pub enum News {
+    // The leaf of the new record.
     Alone(Entry),
+    // A dummy for each one-bit p of the key with low < p < first.depth, then the leaves first and second: count entries.
     Beside {
         low: u64,
         first: Entry,
