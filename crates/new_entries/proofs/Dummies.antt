@@ -205,11 +205,6 @@ module _ {b₀ : List ℕ} {at : ℕ} {es : List Entry} {b : List ℕ} {next : �
             ∙ ap (over b₀ at) (sym (row_bytes_append 2 h.xs (x ∷ []) ∙ ap (λ (m : List ℕ). row_bytes 2 h.xs ++ m) (append-nil (ref_bytes 2 x))));
       }
 
-  pub marking_all : ys ≡ [] → (b ≡ over b₀ at (row_bytes 2 (map ref_of es))) × (next ≡ at + 3 * length es)
-  marking_all e =
-      let whole : h.xs ≡ map ref_of es = sym (append-nil h.xs) ∙ ap (λ (z : List Ref). h.xs ++ z) (sym e) ∙ h.left in
-      (rw (← whole) h.bytes, omega (arith, h.place, ap length whole, length-map es ref_of))
-
 -- ---- in a row
 
 -- Of the dummies es, xs stand behind the m entries es₀ of a row, and ys are left.

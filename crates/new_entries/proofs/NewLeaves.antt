@@ -1,6 +1,5 @@
 -- The entries that stand for the entry found, case by case (01, "Insertion (5.1)"). Assumes nothing.
 use mathlib.Core.Path.{◌≡◌, refl, sym, ap, ap₂, ◌∙◌}
-use mathlib.Core.Logic.{◌≢◌}
 use mathlib.Core.Bool.{Bool, true, false, cond, ◌&&◌}
 use mathlib.Core.Option.{none, some}
 use mathlib.Core.List.{List, [], ◌∷◌, ◌++◌, map, map-append}
@@ -13,15 +12,14 @@ use Rattle.leaf_list.specs.Keys.{bits, below, first_difference}
 use Rattle.leaf_list.specs.Entries.{Entry, entry}
 use Rattle.leaf_list.specs.Search.{positions}
 use Rattle.leaf_list.specs.Insertion.{leaf_depth, dummies, both_leaves}
-use Rattle.leaf_list.specs.Register.{key_at}
 use Rattle.leaf_list.proofs.Bits.{below_bits}
 use Rattle.page_tree.specs.Rows.{All}
 use Rattle.page_tree.proofs.FlatInsertion.{dummies_append}
 use Rattle.index_table.specs.Layout.{Fitting}
 use Rattle.index_table.specs.Pages.{record_of, leaf_of}
-use Rattle.index_table.proofs.Pointers.{record_nil, record_live}
+use Rattle.index_table.proofs.Pointers.{record_live}
 use Rattle.table_search.specs.declared.Leaf.{Leaf}
-use Rattle.new_entries.specs.Entries.{ref_of, count_in, entries_for, refs_for, DummiesPre, Newly, FoundPre, NewPre, NewPost, NewEntries}
+use Rattle.new_entries.specs.Entries.{ref_of, count_in, entries_for, refs_for, DummiesPre, Newly, NewPre, NewPost}
 use Rattle.new_entries.specs.declared.entries.News.{News}
 use Rattle.new_entries.specs.declared.entries.News.TheVariants.{Alone, Beside}
 use Rattle.new_entries.proofs.Dummies.{dummies_same}
@@ -132,34 +130,3 @@ module _ {w key r old : ℕ} {leaf : Leaf} (pre : NewPre w key r old leaf) {b l 
 
   pub order_larger : old ≤ key → both_leaves (below (bits w key) (bits w old)) b leaf.depth r leaf.pointer [] ≡ entry b (some leaf.pointer) ∷ entry leaf.depth (some r) ∷ []
   order_larger h = rw (below_bits w key old pre.narrow pre.other_narrow, le-ltb key old h) refl
-
-module _ {keys : List ℕ} {w key r : ℕ} {leaf : Leaf} (pre : FoundPre keys w key r leaf) where
-  -- "a dummy that is met takes the record"
-  pub new_dummy : leaf.pointer ≡ 65535 → NewEntries keys w key r leaf (Alone (record { depth = leaf.depth; pointer = r }))
-  new_dummy e =
-      record {
-        entries = rw (record_nil e) refl;
-        newly = record {
-          between = record { width = pre.width; narrow = pre.narrow; low_inside = omega arith; high_inside = omega arith };
-          closing = pre.depth_inside;
-          first_fits = omega arith;
-          second_fits = pre.free_record;
-          counted = refl;
-        };
-      }
-
-  -- The leaf of another key.
-  pub other_leaf : leaf.pointer ≢ 65535 → NewPre w key r (key_at keys leaf.pointer) leaf
-  other_leaf n = record {
-    width = pre.width;
-    narrow = pre.narrow;
-    free_record = pre.free_record;
-    depth_inside = pre.depth_inside;
-    trail_inside = pre.trail_inside;
-    live = omega (arith, pre.pointer_inside, n);
-    other_narrow = pre.other_narrow n;
-    other = pre.other n;
-  }
-
-  pub new_beside : {n : News} → NewPost w key r (key_at keys leaf.pointer) leaf n → NewEntries keys w key r leaf n
-  new_beside p = record { entries = p.entries (λ x. bits w (key_at keys x)) refl; newly = p.newly }

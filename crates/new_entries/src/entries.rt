@@ -9,11 +9,12 @@ use index_table::layout::{Answer, answer_of};
 use page_tree::Entry;
 use table_search::Leaf;
 
-// The new entries: the leaf of the new record alone; or a dummy for each one-bit p of the key with low < p < first.depth, then the leaves first and
-// second, count entries.
-#[derive(Clone, Copy)]
+// The new entries.
+#[derive(Clone, Copy, Debug, PartialEq, Eq)]
 pub enum News {
+    // The leaf of the new record.
     Alone(Entry),
+    // A dummy for each one-bit p of the key with low < p < first.depth, then the leaves first and second: count entries.
     Beside {
         low: u64,
         first: Entry,

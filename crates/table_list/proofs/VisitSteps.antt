@@ -18,10 +18,6 @@ module _ (keys : List ℕ) (a b : ℕ) (out : List ℕ) (n : ℕ) (stored : ℕ)
   visited_dummy h = rw (record_nil h)
 
   module _ (r : ℕ) (live : (stored ≢ 65535) × (stored ≡ r)) where
-    -- A live entry's record is one of the register.
-    pub visited_inside : r < length keys
-    visited_inside = rw (← live.1) (pre.inside live.0)
-
     -- It is met with its key.
     visited_met : met a b (key_at keys r) out r n ≡ visited keys a b (out, going n) (record_of 65535 stored)
     unfolding visited

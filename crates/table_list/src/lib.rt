@@ -13,10 +13,12 @@ use std::ops::ControlFlow::{self, Break, Continue};
 use table_find::answer::Answer;
 use table_search::seek;
 
-// What a list comes to where it ends before the entries do: the records written, and whether one more was met that found no room.
+// What a list comes to where it ends before the entries do.
 #[derive(Clone, Copy)]
 struct End {
+    // The records written.
     pub count: usize,
+    // Whether one more was met that found no room.
     pub more: bool,
 }
 

@@ -9,24 +9,31 @@ ghost use Rattle.table_search.specs.Places.{ahead, first_position, last_before, 
 use index_table::layout::{PageNo, child, count, depth, pointer};
 use leaf_list::{bit, first_difference};
 
-// A place in a page: the entry, the next position, and the depth before the entry.
-#[derive(Clone, Copy)]
+// A place in a page.
+#[derive(Clone, Copy, Debug, PartialEq, Eq)]
 pub struct Spot {
+    // The entry.
     pub at: usize,
+    // The next position.
     pub position: u64,
+    // The depth before the entry.
     pub trail: u64,
 }
 
-// An entry on level 0: its place in its page, what it points at, the page, its depth, the depth before it, the depth before its page, and whether the
-// page above its page is sparse.
+// An entry on level 0.
 #[derive(Clone, Copy)]
 pub struct Leaf {
+    // Its place in its page.
     pub at: usize,
+    // What it points at.
     pub pointer: u32,
     pub page: PageNo,
     pub depth: u64,
+    // The depth before it.
     pub trail: u64,
+    // The depth before its page.
     pub before: u64,
+    // Whether the page above its page is sparse.
     pub thin: bool,
 }
 
@@ -132,6 +139,7 @@ pub fn seek(index: &[u8], e: u8, page: PageNo, w: u64, key: u64, position: u64, 
     let ones = bits_behind_first(w);
     let mut disc: u64 = 0;
     let mut i: usize = 0;
+    // Two entries a turn, for one comparison; no `for`, which would keep i and disc from what follows.
     while i + 2 < n {
         let first = last_before(w, ones, disc, u64::from(depth(index, e, page, i)));
         let second = last_before(w, ones, first + 1, u64::from(depth(index, e, page, i + 1)));

@@ -1,16 +1,12 @@
 -- A visit's cases are the code's returns. Assumes nothing.
 use native.Mathlib.Omega.{arith}
 use Rattle.index_table.proofs.Pointers.{dummy_pointer, live_pointer}
-use Rattle.table_list.proofs.VisitSteps.{visited_dummy, visited_inside, visited_below, visited_ended, visited_full, visited_written}
+use Rattle.table_list.proofs.VisitSteps.{visited_dummy, visited_below, visited_ended, visited_full, visited_written}
 use Rattle.table_list.proofs.visit.Goals as goal
 
 pub returns-in_default : goal.returns-in_default
 returns-in_default c =
     visited_dummy _ _ _ _ _ _ c.requires (dummy_pointer _ _ c.answer_of.ensures c.in_default.is)
-
-pub bounds-keys-at : goal.bounds-keys-at
-bounds-keys-at c =
-    visited_inside _ 0 0 c.args.out.now 0 _ c.requires _ (live_pointer _ _ _ c.answer_of.ensures c.in-Live.is)
 
 pub returns-then-key-a : goal.returns-then-key-a
 returns-then-key-a c =

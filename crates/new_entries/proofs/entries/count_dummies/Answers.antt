@@ -1,5 +1,4 @@
 -- The one-bits between two depths, counted at once. Assumes nothing.
-use native.Mathlib.Omega.{arith}
 use Rattle.new_entries.proofs.Dummies.{counted, count_low}
 use Rattle.new_entries.proofs.entries.count_dummies.Goals as goal
 
@@ -7,6 +6,3 @@ pub returns : goal.returns
 returns c =
     let pre = c.requires in
     (counted _ _ _ _ pre.0.low_inside pre.2 _ c.last_bits-behind.ensures, count_low _ _ _ _ _ c.last_bits-behind.ensures)
-
-pub overflow_cast-result : goal.overflow_cast-result
-overflow_cast-result c = omega (arith, c.requires.0.width, count_low _ _ _ c.args.high _ c.last_bits-behind.ensures)

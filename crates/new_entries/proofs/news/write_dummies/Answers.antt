@@ -2,7 +2,7 @@
 use mathlib.Core.Path.{ap, ◌∙◌}
 use native.Mathlib.Omega.{arith}
 use Rattle.new_entries.specs.Entries.{dummies_left}
-use Rattle.new_entries.proofs.Dummies.{marking_none, marking_room, marking_more, marking_all}
+use Rattle.new_entries.proofs.Dummies.{marking_none, marking_room, marking_more}
 use Rattle.new_entries.proofs.news.write_dummies.Goals as goal
 
 pub loop-depth-init : goal.loop-depth-init
@@ -16,6 +16,3 @@ overflow_add-next c = omega (arith, marking_room c.loop-depth.invariant _ c.in-S
 
 pub loop-depth-preserved : goal.loop-depth-preserved
 loop-depth-preserved c = marking_more c.loop-depth.invariant c.in-Some.ensures.steps c.write_entry.auto.index c.write_entry.ensures
-
-pub returns : goal.returns
-returns c = marking_all c.loop-depth.invariant c.in-None.ensures.steps.0
