@@ -8,6 +8,7 @@ use table_search::seek;
 use tree_delete::removal::after;
 
 // Down from a page of a level, whose last depth is d, to the entry found, which becomes a dummy where figure 11 leaves it one; whether it does.
+// The depth and the page stand for an entry: an `Entry` is no plainer, since its pointer would be made a page's number on each level.
 pub fn blank(
     index: &mut [u8],
     e: u8,

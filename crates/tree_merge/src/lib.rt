@@ -96,6 +96,7 @@ fn join_beside(index: &mut [u8], e: u8, pages: u16, level: u8, d: u8, page: Page
 
 // Goes from a page of a level, whose last depth is d, down to the page that covers a key, and joins on the way back, level by level, a sparse page with a
 // neighbour. Below a page of a level under `lowest` nothing is to be joined.
+// The entry stands as its depth and its page, here and above: an `Entry` is no plainer, since its pointer would be made a page's number on each level.
 pub fn merge(
     index: &mut [u8],
     e: u8,
