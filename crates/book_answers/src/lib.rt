@@ -9,6 +9,9 @@ use itoa::Buffer;
 
 const TAB: u8 = b'\t';
 
+// Each function writes at a place, and gives the place behind. A struct of the bytes and the place would be no plainer: `write_answer` would make it, and
+// take it apart again.
+
 // Bytes; the place behind them.
 fn write_bytes(out: &mut [u8], at: usize, bytes: &[u8]) -> usize
     requires { at + length bytes.now ≤ length out.old }
