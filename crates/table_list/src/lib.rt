@@ -6,10 +6,11 @@ ghost use Rattle.leaf_list.specs.Register.{herd_of};
 ghost use Rattle.index_table.specs.Header.{width_of};
 ghost use Rattle.index_table.specs.Pages.{record_of};
 ghost use Rattle.index_table.specs.Soundness.{Sound};
+ghost use Rattle.table_find.specs.Answers.{with_count};
 ghost use Rattle.table_list.specs.Listings.{begun, visited, VisitPre, RowPre, RowListed, FromPre, FromListed, Listed};
 
 use index_table::layout::{PageNo, answer_of, child, count, pointer};
-use table_find::answer::Answer;
+use table_find::answer::Counted;
 use table_search::seek;
 
 // How far a list has come: the records written, whether one more was met that found no room, and whether nothing further is to be met.
@@ -169,15 +170,25 @@ fn list_from(
 }
 
 // The records of the keys from a to b.
-pub fn list_held(index: &[u8], keys: &[u64], used: &[u8], a: u64, b: u64, out: &mut [u32]) -> Answer
+pub fn list_held(
+    index: &[u8],
+    keys: &[u64],
+    used: &[u8],
+    a: u64,
+    b: u64,
+    out: &mut [u32],
+) -> Counted
     requires { Sound index.now keys.now used.now × (a < 2 ^ width_of index.now) }
-    ensures { Listed a b (herd_of keys.now used.now) out.old result out.new }
+    ensures { Listed a b (herd_of keys.now used.now) out.old (with_count result.count result.more) out.new }
 {
     let h = index_table::header::read(index);
-    let w = index_table::layout::deep(h.width);
+    let w = u64::from(h.width);
     let e = h.entries;
     let level = index_table::layout::level(index, e, h.root);
     let position = table_search::next_position(w, a, 0);
     let l = list_from(index, keys, e, level, h.root, w, a, b, position, 0, out);
-    Answer::with_count(l.count as u64, l.more)
+    Counted {
+        count: l.count,
+        more: l.more,
+    }
 }

@@ -1,5 +1,4 @@
 -- From the root, with the lower end's first position. Assumes nothing.
-use mathlib.Core.Path.{◌∙◌}
 use native.Mathlib.Omega.{arith}
 use Rattle.index_table.proofs.SoundTables.{header_long}
 use Rattle.table_find.proofs.FoundLeaves.{root_page, width_high, key_narrow}
@@ -15,13 +14,12 @@ level-level-requires c = root_page c.requires.0 _ c.read-h.ensures
 pub next_position-position-requires : goal.next_position-position-requires
 next_position-position-requires c =
     let read = c.read-h.ensures in
-    (width_high c.requires.0 _ read _ c.deep-w.ensures, omega arith, key_narrow c.requires.0 _ read _ _ _ c.deep-w.ensures c.level-level.ensures c.requires.1)
+    (width_high c.requires.0 _ read _ c.from-w.ensures, omega arith, key_narrow c.requires.0 _ read _ _ _ c.from-w.ensures c.level-level.ensures c.requires.1)
 
 pub list_from-l-requires : goal.list_from-l-requires
 list_from-l-requires c =
-    list_start c.requires.0 _ c.read-h.ensures _ _ _ c.deep-w.ensures c.level-level.ensures c.requires.1 _ c.next_position-position.ensures
+    list_start c.requires.0 _ c.read-h.ensures _ _ _ c.from-w.ensures c.level-level.ensures c.requires.1 _ c.next_position-position.ensures
 
 pub returns : goal.returns
 returns c =
-    let end = list_end c.requires.0 _ c.read-h.ensures _ _ _ c.deep-w.ensures c.level-level.ensures c.requires.1 _ _ _ _ c.next_position-position.ensures c.list_from-l.ensures in
-    record { answered = c.with_count.ensures ∙ end.answered; slice = end.slice }
+    list_end c.requires.0 _ c.read-h.ensures _ _ _ c.from-w.ensures c.level-level.ensures c.requires.1 _ _ _ _ c.next_position-position.ensures c.list_from-l.ensures
