@@ -3,7 +3,7 @@
 
 ghost use Rattle.std.specs.Prelude.{◌≡◌, ◌-◌, ◌≤◌, length};
 ghost use Rattle.page_tree.specs.Numbered.{off_numbered};
-ghost use Rattle.index_table.specs.Refusals.{row_of};
+ghost use Rattle.index_table.specs.Refusals.{answer_number};
 ghost use Rattle.index_table.specs.Header.{width_of, entries_of, held_of};
 ghost use Rattle.index_table.specs.Layout.{Within, layout_of};
 ghost use Rattle.index_table.specs.Soundness.{numbered_tree_of};
@@ -41,7 +41,7 @@ pub fn strike_pages(index: &mut [u8], key: u64, leaf: Leaf)
 // Refuses an insertion of the entries by row 8 or 7, the first that applies.
 pub fn late_row(index: &[u8], key: u64, news: Row) -> Result<(), Refusal>
     requires { OnPagesPre index.now key news }
-    ensures { row_of result ≡ late_row_with index.now key news }
+    ensures { answer_number result ≡ late_row_with index.now key news }
 {
     let h = index_table::header::read(index);
     let level = index_table::layout::level(index, h.entries, h.root);

@@ -10,3 +10,4 @@ pub mod SoundNodes
 pub mod SoundTables
 pub mod UsedPages
 pub mod NumberedPages
+pub mod RefusalLaws

@@ -17,9 +17,9 @@ number_of OutsideLimits = 9
 number_of AnswersTooShort = 12
 
 -- "A refusal returns its number", "A done call returns 0".
-abbrev pub row_of : Result (Unit {0}) Refusal → ℕ
-row_of (Ok u) = 0
-row_of (Err refusal) = number_of refusal
+abbrev pub answer_number : Result (Unit {0}) Refusal → ℕ
+answer_number (Ok u) = 0
+answer_number (Err refusal) = number_of refusal
 
 -- Each row in words.
 abbrev pub words_of : Refusal → List ℕ

@@ -35,13 +35,13 @@ wide_is key e q p = ap (λ (n : ℕ). leb (2 ^ n) key) (sym e) ∙ sym q ∙ p
 
 module _ {index keys used : List ℕ} {key : ℕ} where
   -- A row declines it, and nothing is changed.
-  pub off_refused : (n : ℕ) → n ≢ 0 → off_row_of index keys used key ≡ n → (a : Answer) → a ≡ plain n → OffChanges index keys used key index keys used a
-  off_refused n z e a q = record { answer = q ∙ ap plain (sym e); refused = λ g. (refl, refl, refl); done = λ g. absurd (z (sym e ∙ g)) }
+  pub off_refused : (n : ℕ) → n ≢ 0 → off_row_of index keys used key ≡ n → OffChanges index keys used key index keys used (plain n)
+  off_refused n z e = record { answer = ap plain (sym e); refused = λ g. (refl, refl, refl); done = λ g. absurd (z (sym e ∙ g)) }
 
   -- None does.
-  pub off_accepted : {index₁ keys₁ used₁ : List ℕ} → off_row_of index keys used key ≡ 0 → (a : Answer) → a ≡ plain 0 → OffDone index keys used key index₁ keys₁ used₁
-      → OffChanges index keys used key index₁ keys₁ used₁ a
-  off_accepted e a q d = record { answer = q ∙ ap plain (sym e); refused = λ g. absurd (g e); done = λ g. d }
+  pub off_accepted : {index₁ keys₁ used₁ : List ℕ} → off_row_of index keys used key ≡ 0 → OffDone index keys used key index₁ keys₁ used₁
+      → OffChanges index keys used key index₁ keys₁ used₁ (plain 0)
+  off_accepted e d = record { answer = ap plain (sym e); refused = λ g. absurd (g e); done = λ g. d }
 
 module _ (index keys used : List ℕ) (key : ℕ) where
   pub off_wide : too_wide (width_of index) key ≡ true → off_row_of index keys used key ≡ 2
@@ -84,12 +84,12 @@ module _ {index keys used : List ℕ} {key : ℕ} {leaf : Leaf} (h : HeldKey ind
 -- ---- on
 
 module _ {index keys used : List ℕ} {key r : ℕ} where
-  pub on_refused : (n : ℕ) → n ≢ 0 → on_row_of index keys used key r ≡ n → (a : Answer) → a ≡ plain n → OnChanges index keys used key r index keys used a
-  on_refused n z e a q = record { answer = q ∙ ap plain (sym e); refused = λ g. (refl, refl, refl); done = λ g. absurd (z (sym e ∙ g)) }
+  pub on_refused : (n : ℕ) → n ≢ 0 → on_row_of index keys used key r ≡ n → OnChanges index keys used key r index keys used (plain n)
+  on_refused n z e = record { answer = ap plain (sym e); refused = λ g. (refl, refl, refl); done = λ g. absurd (z (sym e ∙ g)) }
 
-  pub on_accepted : {index₁ keys₁ used₁ : List ℕ} → on_row_of index keys used key r ≡ 0 → (a : Answer) → a ≡ plain 0 → OnDone index keys used key r index₁ keys₁ used₁
-      → OnChanges index keys used key r index₁ keys₁ used₁ a
-  on_accepted e a q d = record { answer = q ∙ ap plain (sym e); refused = λ g. absurd (g e); done = λ g. d }
+  pub on_accepted : {index₁ keys₁ used₁ : List ℕ} → on_row_of index keys used key r ≡ 0 → OnDone index keys used key r index₁ keys₁ used₁
+      → OnChanges index keys used key r index₁ keys₁ used₁ (plain 0)
+  on_accepted e d = record { answer = ap plain (sym e); refused = λ g. absurd (g e); done = λ g. d }
 
 -- Row 2, 3 or 4 is the row, whatever the later ones say.
 early_first : (a b c d e f : Bool) → on_row a b c false false false ≢ 0 → on_row a b c d e f ≡ on_row a b c false false false

@@ -1,9 +1,11 @@
 // Off in sound tables.
+ghost use Rattle.index_table.specs.Refusals.{answer_number};
 ghost use Rattle.index_table.specs.Soundness.{Sound};
+ghost use Rattle.table_find.specs.Answers.{plain};
 ghost use Rattle.table_change.specs.Changes.{OffDone, OffChanges};
 ghost use Rattle.table_change.specs.FoundKeys.{HeldKey};
 
-use table_find::answer::Answer;
+use index_table::refusal::Refusal;
 use table_search::Leaf;
 
 // A held key is taken out at its leaf, and its record is free.
@@ -18,17 +20,22 @@ fn take_off(index: &mut [u8], keys: &mut [u64], used: &mut [u8], key: u64, leaf:
 }
 
 // Row 2 or 6, or the key is taken out.
-pub fn off_sound(index: &mut [u8], keys: &mut [u64], used: &mut [u8], key: u64) -> Answer
+pub fn off_sound(
+    index: &mut [u8],
+    keys: &mut [u64],
+    used: &mut [u8],
+    key: u64,
+) -> Result<(), Refusal>
     requires { Sound index.old keys.old used.old }
-    ensures { OffChanges index.old keys.old used.old key index.new keys.new used.new result }
+    ensures { OffChanges index.old keys.old used.old key index.new keys.new used.new (plain (answer_number result)) }
 {
     if leaf_list::too_wide(index_table::header::width(index), key) {
-        return Answer::plain(2);
+        return Err(Refusal::KeyTooWide);
     }
     let leaf = table_find::find::leaf_of(index, keys, used, key);
     if !crate::rows::is_key(keys, leaf.pointer, key) {
-        return Answer::plain(6);
+        return Err(Refusal::KeyNotHeld);
     }
     take_off(index, keys, used, key, leaf);
-    Answer::plain(0)
+    Ok(())
 }

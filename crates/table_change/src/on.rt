@@ -1,14 +1,16 @@
 // On in sound tables.
 ghost use Rattle.std.specs.Prelude.{◌≡◌, ◌<◌, length, set};
+ghost use Rattle.index_table.specs.Refusals.{answer_number};
 ghost use Rattle.index_table.specs.Soundness.{Sound};
+ghost use Rattle.table_find.specs.Answers.{plain};
 ghost use Rattle.table_change.specs.Changes.{OnDone, OnChanges};
 ghost use Rattle.table_change.specs.News.{NewKey, FreeRecord};
 ghost use Rattle.index_change.specs.Repaging.{Roomy};
 ghost use Rattle.table_change.specs.FoundKeys.{FoundKey, FittingKey};
 
+use index_table::refusal::Refusal;
 use new_entries::entries::News;
 use page_tree::Row;
-use table_find::answer::Answer;
 use table_search::Leaf;
 
 // The key of a record, and its byte.
@@ -55,16 +57,13 @@ fn cut_on(
     key: u64,
     record: u32,
     news: Row,
-) -> Answer
+) -> Result<(), Refusal>
     requires { NewKey index.old keys.old used.old key «record» news }
-    ensures { OnChanges index.old keys.old used.old key «record» index.new keys.new used.new result }
+    ensures { OnChanges index.old keys.old used.old key «record» index.new keys.new used.new (plain (answer_number result)) }
 {
-    let late = index_change::late_row(index, key, news);
-    if late != 0 {
-        return Answer::plain(late);
-    }
+    index_change::late_row(index, key, news)?;
     put_on(index, keys, used, key, record, news);
-    Answer::plain(0)
+    Ok(())
 }
 
 // A new key is put in: into the page found where it has room, else by cutting pages, with row 8 or 7.
@@ -76,13 +75,13 @@ fn place_on(
     record: u32,
     leaf: Leaf,
     news: News,
-) -> Answer
+) -> Result<(), Refusal>
     requires { FoundKey index.old keys.old used.old key «record» leaf news }
-    ensures { OnChanges index.old keys.old used.old key «record» index.new keys.new used.new result }
+    ensures { OnChanges index.old keys.old used.old key «record» index.new keys.new used.new (plain (answer_number result)) }
 {
     if index_change::has_room(index, leaf.page, news.count()) {
         open_on(index, keys, used, key, record, leaf, news);
-        return Answer::plain(0);
+        return Ok(());
     }
     let w = index_table::header::width(index);
     let row = new_entries::news::row_of(w, key, news);
@@ -90,13 +89,19 @@ fn place_on(
 }
 
 // Row 5, 8 or 7, or the key is put in with a free record.
-fn on_free(index: &mut [u8], keys: &mut [u64], used: &mut [u8], key: u64, record: u32) -> Answer
+fn on_free(
+    index: &mut [u8],
+    keys: &mut [u64],
+    used: &mut [u8],
+    key: u64,
+    record: u32,
+) -> Result<(), Refusal>
     requires { FreeRecord index.old keys.old used.old key «record» }
-    ensures { OnChanges index.old keys.old used.old key «record» index.new keys.new used.new result }
+    ensures { OnChanges index.old keys.old used.old key «record» index.new keys.new used.new (plain (answer_number result)) }
 {
     let leaf = table_find::find::leaf_of(index, keys, used, key);
     if crate::rows::is_key(keys, leaf.pointer, key) {
-        return Answer::plain(5);
+        return Err(Refusal::KeyHeld);
     }
     let w = index_table::header::width(index);
     let news = new_entries::entries::new_entries(keys, w, key, record, leaf);
@@ -110,13 +115,10 @@ pub fn on_sound(
     used: &mut [u8],
     key: u64,
     record: u32,
-) -> Answer
+) -> Result<(), Refusal>
     requires { Sound index.old keys.old used.old }
-    ensures { OnChanges index.old keys.old used.old key «record» index.new keys.new used.new result }
+    ensures { OnChanges index.old keys.old used.old key «record» index.new keys.new used.new (plain (answer_number result)) }
 {
-    let early = crate::rows::early_row(index, used, key, record);
-    if early != 0 {
-        return Answer::plain(early);
-    }
+    crate::rows::early_row(index, used, key, record)?;
     on_free(index, keys, used, key, record)
 }

@@ -1,28 +1,30 @@
 // The rows that decline an on before its entries are made.
 ghost use Rattle.std.specs.Prelude.{◌≡◌, false, ◌≢◌, ◌≤◌, ◌<◌, leb, length};
 ghost use Rattle.leaf_list.specs.Register.{in_use};
+ghost use Rattle.index_table.specs.Refusals.{answer_number};
 ghost use Rattle.index_table.specs.Header.{width_of};
 ghost use Rattle.table_change.specs.Changes.{too_wide, on_row};
 ghost use Rattle.table_change.specs.News.{key_is};
 
 use index_table::layout::Answer;
+use index_table::refusal::Refusal;
 
-// Row 2, 3 or 4, the first that applies; 0 if none does.
-pub fn early_row(index: &[u8], used: &[u8], key: u64, record: u32) -> u32
+// Refuses an on by row 2, 3 or 4, the first that applies.
+pub fn early_row(index: &[u8], used: &[u8], key: u64, record: u32) -> Result<(), Refusal>
     requires { (16 ≤ length index.now) × (width_of index.now ≤ 64) }
-    ensures { result ≡ on_row (too_wide (width_of index.now) key) (leb (length used.now) «record») (in_use used.now «record») false false false }
+    ensures { answer_number result ≡ on_row (too_wide (width_of index.now) key) (leb (length used.now) «record») (in_use used.now «record») false false false }
 {
     if leaf_list::too_wide(index_table::header::width(index), key) {
-        return 2;
+        return Err(Refusal::KeyTooWide);
     }
     let at = record as usize;
     if used.len() <= at {
-        return 3;
+        return Err(Refusal::NoSuchRecord);
     }
     if used[at] == 1 {
-        return 4;
+        return Err(Refusal::RecordInUse);
     }
-    0
+    Ok(())
 }
 
 // Whether a pointer of level 0 means a record with the key.

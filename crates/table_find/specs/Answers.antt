@@ -25,7 +25,7 @@ abbrev pub found : Option ℕ → Answer
 found none = plain 6
 found (some r) = with_record r
 
--- The answer of a find and of a list, done or refused. (Of a call that sets nothing but the number it is `plain (row_of result)`.)
+-- The answer of a find and of a list, done or refused. (Of a call that sets nothing but the number it is `plain (answer_number result)`.)
 abbrev pub find_answer : Result RecordNo Refusal → Answer
 find_answer (Ok r) = with_record r.0
 find_answer (Err refusal) = plain (number_of refusal)

@@ -1,6 +1,6 @@
 // The answer of every call, as C gets it.
 ghost use Rattle.std.specs.Prelude.{◌≡◌};
-ghost use Rattle.index_table.specs.Refusals.{row_of};
+ghost use Rattle.index_table.specs.Refusals.{answer_number};
 ghost use Rattle.table_find.specs.Answers.{plain, with_record, with_count, find_answer, list_answer};
 
 use index_table::layout::RecordNo;
@@ -63,7 +63,7 @@ impl Answer {
 
 // The answer of a call that sets nothing but the number.
 impl From<Result<(), Refusal>> for Answer {
-    ghost from_gives = { λ done answer. answer ≡ plain (row_of done) };
+    ghost from_gives = { λ done answer. answer ≡ plain (answer_number done) };
 
     fn from(done: Result<(), Refusal>) -> Answer {
         match done {

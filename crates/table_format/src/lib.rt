@@ -2,7 +2,7 @@
 #![tactic(auto)]
 
 ghost use Rattle.std.specs.Prelude.{◌≡◌, true, ◌↔◌};
-ghost use Rattle.index_table.specs.Refusals.{row_of};
+ghost use Rattle.index_table.specs.Refusals.{answer_number};
 ghost use Rattle.index_table.specs.Soundness.{Limits};
 ghost use Rattle.table_find.specs.Answers.{plain};
 ghost use Rattle.table_format.specs.Format.{format_fits, empty_table, FormatDoes, EmptyPre};
@@ -51,7 +51,7 @@ pub fn format(
     e: u64,
     p: u64,
 ) -> Result<(), Refusal>
-    ensures { FormatDoes w e p index.old keys.old used.old index.new keys.new used.new (plain (row_of result)) }
+    ensures { FormatDoes w e p index.old keys.old used.old index.new keys.new used.new (plain (answer_number result)) }
 {
     if !format_fits(w, e, p, index.len(), keys.len(), used.len()) {
         return Err(Refusal::OutsideLimits);

@@ -6,11 +6,12 @@ ghost use Rattle.leaf_list.specs.Register.{herd_of};
 ghost use Rattle.index_table.specs.Header.{width_of};
 ghost use Rattle.index_table.specs.Pages.{record_of};
 ghost use Rattle.index_table.specs.Soundness.{Sound};
+ghost use Rattle.table_find.specs.Answers.{with_count};
 ghost use Rattle.table_list.specs.Listings.{going, visited, VisitPre, RowPre, RowListed, FromPre, FromListed, Listed};
 
 use index_table::layout::{PageNo, answer_of, child, count, pointer};
 use std::ops::ControlFlow::{self, Break, Continue};
-use table_find::answer::Answer;
+use table_find::answer::Counted;
 use table_search::seek;
 
 // What a list comes to where it ends before the entries do.
@@ -143,9 +144,16 @@ fn list_from(
 }
 
 // The records of the keys from a to b.
-pub fn list_held(index: &[u8], keys: &[u64], used: &[u8], a: u64, b: u64, out: &mut [u32]) -> Answer
+pub fn list_held(
+    index: &[u8],
+    keys: &[u64],
+    used: &[u8],
+    a: u64,
+    b: u64,
+    out: &mut [u32],
+) -> Counted
     requires { Sound index.now keys.now used.now × (a < 2 ^ width_of index.now) }
-    ensures { Listed a b (herd_of keys.now used.now) out.old result out.new }
+    ensures { Listed a b (herd_of keys.now used.now) out.old (with_count result.count result.more) out.new }
 {
     let h = index_table::header::read(index);
     let w = u64::from(h.width);
@@ -156,5 +164,5 @@ pub fn list_held(index: &[u8], keys: &[u64], used: &[u8], a: u64, b: u64, out: &
         Continue(count) => (count, false),
         Break(end) => (end.count, end.more),
     };
-    Answer::with_count(count as u64, more)
+    Counted { count, more }
 }

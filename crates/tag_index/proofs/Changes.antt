@@ -17,11 +17,11 @@ module _ {index keys used : List ℕ} (sound : Bool) (decides : (sound ≡ true)
   judged = record { sound = sound; decides = decides }
 
   -- Row 1: nothing is changed.
-  pub on_unsound : {key r : ℕ} (a : Answer) → sound ≡ false → a ≡ plain 1 → OnDoes index keys used key r index keys used a
-  on_unsound a s q = record { judged = judged; answer = rw s q; refused = λ n. (refl, refl, refl); done = rw s (λ z. absurd (omega (arith, z))) }
+  pub on_unsound : {key r : ℕ} → sound ≡ false → OnDoes index keys used key r index keys used (plain 1)
+  on_unsound s = record { judged = judged; answer = rw s refl; refused = λ n. (refl, refl, refl); done = rw s (λ z. absurd (omega (arith, z))) }
 
-  pub off_unsound : {key : ℕ} (a : Answer) → sound ≡ false → a ≡ plain 1 → OffDoes index keys used key index keys used a
-  off_unsound a s q = record { judged = judged; answer = rw s q; refused = λ n. (refl, refl, refl); done = rw s (λ z. absurd (omega (arith, z))) }
+  pub off_unsound : {key : ℕ} → sound ≡ false → OffDoes index keys used key index keys used (plain 1)
+  off_unsound s = record { judged = judged; answer = rw s refl; refused = λ n. (refl, refl, refl); done = rw s (λ z. absurd (omega (arith, z))) }
 
   -- The change itself.
   pub on_sound : {key r : ℕ} {index₁ keys₁ used₁ : List ℕ} {a : Answer} → sound ≡ true → OnChanges index keys used key r index₁ keys₁ used₁ a → OnDoes index keys used key r index₁ keys₁ used₁ a

@@ -52,9 +52,9 @@ none_sound {index} {keys} {used} {a} {b} f z =
 
 -- ---- what stands behind a row
 
-pub behind_declined : (row : ℕ) {m : ℕ} (done r : Answer) → row ≡ m → row ≢ 0 → r ≡ plain row → r ≡ behind m done
-behind_declined zero done r e k q = absurd (k refl)
-behind_declined (suc n) done r e k q = rw (sym e, eqb-suc-zero n) q
+pub behind_declined : (row : ℕ) {m : ℕ} (done : Answer) → row ≡ m → row ≢ 0 → plain row ≡ behind m done
+behind_declined zero done e k = absurd (k refl)
+behind_declined (suc n) done e k = rw (sym e, eqb-suc-zero n) refl
 
 pub behind_done : {row m : ℕ} (done r : Answer) → row ≡ m → row ≡ 0 → r ≡ done → r ≡ behind m done
 behind_done done r e z q = rw (sym e, z) q

@@ -29,23 +29,15 @@ empty = record { key = 0; «record» = 0; on = 0 }
 pub plain_number : {n : ℕ} {a : Answer} → a ≡ plain n → a ≡ plain a.number
 plain_number e = e ∙ ap (λ (x : Answer). plain x.number) (sym e)
 
-pub moved_off : {t u : Tables} {key : ℕ} (r on : ℕ) {answers : List ℕ} (i : ℕ) {a : Answer} → on ≡ 0 → OffChanges t.index t.keys t.used key u.index u.keys u.used a
+pub moved_off : {t u : Tables} {key : ℕ} (r on : ℕ) {answers : List ℕ} (i : ℕ) {n : ℕ} {a : Answer} → on ≡ 0 → OffChanges t.index t.keys t.used key u.index u.keys u.used (plain n) → a ≡ plain n
     → OneMoved t key r on answers i u (set answers i a.number)
-moved_off {t} {u} {key} r zero i {a} e d = record {
-  number = a.number;
-  does = subst (OffChanges t.index t.keys t.used key u.index u.keys u.used) (plain_number d.answer) d;
-  stored = refl;
-}
-moved_off r (suc on) i e d = absurd (omega (arith, e))
+moved_off r zero {answers} i {n} e d q = record { number = n; does = d; stored = ap (λ (x : Answer). set answers i x.number) q }
+moved_off r (suc on) i e d q = absurd (omega (arith, e))
 
-pub moved_on : {t u : Tables} {key r : ℕ} (on : ℕ) {answers : List ℕ} (i : ℕ) {a : Answer} → on ≢ 0 → OnChanges t.index t.keys t.used key r u.index u.keys u.used a
+pub moved_on : {t u : Tables} {key r : ℕ} (on : ℕ) {answers : List ℕ} (i : ℕ) {n : ℕ} {a : Answer} → on ≢ 0 → OnChanges t.index t.keys t.used key r u.index u.keys u.used (plain n) → a ≡ plain n
     → OneMoved t key r on answers i u (set answers i a.number)
-moved_on zero i e d = absurd (e refl)
-moved_on {t} {u} {key} {r} (suc on) i {a} e d = record {
-  number = a.number;
-  does = subst (OnChanges t.index t.keys t.used key r u.index u.keys u.used) (plain_number d.answer) d;
-  stored = refl;
-}
+moved_on zero i e d q = absurd (e refl)
+moved_on (suc on) {answers} i {n} e d q = record { number = n; does = d; stored = ap (λ (x : Answer). set answers i x.number) q }
 
 -- Tables that are as they were are sound if they were.
 sound_same : {t u : Tables} → (u.index ≡ t.index) × (u.keys ≡ t.keys) × (u.used ≡ t.used) → SoundAt t → SoundAt u

@@ -1,4 +1,4 @@
-// The calls by the names that C calls them by.
+// The calls by the names that C calls them by, each with the answer that C gets.
 ghost use Rattle.std.specs.Prelude.{◌≡◌, true, ◌↔◌};
 ghost use Rattle.index_table.specs.Soundness.{Sound};
 ghost use Rattle.table_format.specs.Format.{FormatDoes};
@@ -20,7 +20,7 @@ pub fn tag_index_format(
 ) -> Answer
     ensures { FormatDoes w e p index.old keys.old used.old index.new keys.new used.new result }
 {
-    table_format::format(index, keys, used, w, e, p)
+    Answer::from(table_format::format(index, keys, used, w, e, p))
 }
 
 pub fn tag_index_on(
@@ -32,19 +32,19 @@ pub fn tag_index_on(
 ) -> Answer
     ensures { OnDoes index.old keys.old used.old key «record» index.new keys.new used.new result }
 {
-    crate::change::on(index, keys, used, key, record)
+    Answer::from(crate::change::on(index, keys, used, key, record))
 }
 
 pub fn tag_index_off(index: &mut [u8], keys: &mut [u64], used: &mut [u8], key: u64) -> Answer
     ensures { OffDoes index.old keys.old used.old key index.new keys.new used.new result }
 {
-    crate::change::off(index, keys, used, key)
+    Answer::from(crate::change::off(index, keys, used, key))
 }
 
 pub fn tag_index_find(index: &[u8], keys: &[u64], used: &[u8], key: u64) -> Answer
     ensures { FindDoes index.now keys.now used.now key result }
 {
-    crate::read::find(index, keys, used, key)
+    Answer::from(crate::read::find(index, keys, used, key))
 }
 
 pub fn tag_index_list(
@@ -57,7 +57,7 @@ pub fn tag_index_list(
 ) -> Answer
     ensures { ListDoes index.now keys.now used.now a b out.old out.new result }
 {
-    crate::read::list(index, keys, used, a, b, out)
+    Answer::from(crate::read::list(index, keys, used, a, b, out))
 }
 
 pub fn tag_index_check(index: &[u8], keys: &[u64], used: &[u8]) -> bool
@@ -66,7 +66,7 @@ pub fn tag_index_check(index: &[u8], keys: &[u64], used: &[u8]) -> bool
     crate::read::check(index, keys, used)
 }
 
-// Works through a load.
+// Works through a load: 01 wants one thin loop over the lent movements, which calls the change on plain values.
 pub fn tag_index_load(
     index: &mut [u8],
     keys: &mut [u64],
@@ -78,11 +78,9 @@ pub fn tag_index_load(
 {
     let row = crate::load::load_row(index, keys, used, answers, movements.len());
     let n = crate::load::turns(row, movements.len());
-    let mut i = 0;
-    while i < n {
+    for i in 0..n {
         let m = movements[i];
         crate::load::move_one(index, keys, used, m.key, m.record, m.on, answers, i);
-        i += 1;
     }
-    Answer::plain(row)
+    Answer::from(row)
 }

@@ -2,7 +2,6 @@
 use Rattle.table_find.proofs.FoundLeaves.{root_page}
 use Rattle.table_list.proofs.ListedHerds.{list_start, list_end}
 use Rattle.table_list.proofs.list_held.Goals as goal
-use Rattle.table_list.proofs.list_held.Goals.{in-Continue, in-Break}
 
 pub level-level-requires : goal.level-level-requires
 level-level-requires c = root_page c.requires.0 _ c.read-h.ensures
@@ -11,11 +10,10 @@ pub list_from-requires : goal.list_from-requires
 list_from-requires c =
     list_start c.requires.0 _ c.read-h.ensures _ _ _ c.from-w.ensures c.level-level.ensures c.requires.1 _ c.next_position-position.ensures
 
-pub returns : goal.returns
-returns c =
-    let end = list_end c.requires.0 _ c.read-h.ensures _ _ _ c.from-w.ensures c.level-level.ensures c.requires.1 _ _ _ in
-    rw c.with_count.ensures
-    (elim c.match-list_from.branch [
-      | in-Continue w ↦ rw w.count-is (end _ c.next_position-position.ensures w.in-Continue.ensures)
-      | in-Break w ↦ rw w.count-is (end _ c.next_position-position.ensures w.in-Break.ensures)
-    ])
+pub returns-in-Continue : goal.returns-in-Continue
+returns-in-Continue c =
+    list_end c.requires.0 _ c.read-h.ensures _ _ _ c.from-w.ensures c.level-level.ensures c.requires.1 _ _ _ _ c.next_position-position.ensures c.in-Continue.ensures
+
+pub returns-in-Break : goal.returns-in-Break
+returns-in-Break c =
+    list_end c.requires.0 _ c.read-h.ensures _ _ _ c.from-w.ensures c.level-level.ensures c.requires.1 _ _ _ _ c.next_position-position.ensures c.in-Break.ensures

@@ -15,7 +15,7 @@ too_wide-requires c = omega (arith, c.width.ensures.0, c.requires.limits.width_h
 pub returns-then-too_wide : goal.returns-then-too_wide
 returns-then-too_wide c =
     let wide = wide_is _ c.width.ensures.0 c.too_wide.ensures c.if-too_wide.true in
-    off_refused 2 (λ e. omega (arith, e)) (off_wide c.args.index.now c.args.keys.now c.args.used.now c.args.key wide) _ c.plain.ensures
+    off_refused 2 (λ e. omega (arith, e)) (off_wide c.args.index.now c.args.keys.now c.args.used.now c.args.key wide)
 
 pub leaf_of-leaf-requires : goal.leaf_of-leaf-requires
 leaf_of-leaf-requires c =
@@ -30,7 +30,7 @@ is_key-requires c =
 pub returns-then-not-is_key : goal.returns-then-not-is_key
 returns-then-not-is_key c =
     let wide = wide_is _ c.width.ensures.0 c.too_wide.ensures c.if-too_wide.false in
-    off_refused 6 (λ e. omega (arith, e)) (row_six c.requires wide _ c.leaf_of-leaf.ensures c.is_key.ensures c.if-not-is_key.true) _ c.plain-then-not-is_key.ensures
+    off_refused 6 (λ e. omega (arith, e)) (row_six c.requires wide _ c.leaf_of-leaf.ensures c.is_key.ensures c.if-not-is_key.true)
 
 pub take_off-requires : goal.take_off-requires
 take_off-requires c =
@@ -40,4 +40,4 @@ take_off-requires c =
 pub returns : goal.returns
 returns c =
     let wide = wide_is _ c.width.ensures.0 c.too_wide.ensures c.if-too_wide.false in
-    off_accepted (row_none c.requires wide _ c.leaf_of-leaf.ensures c.is_key.ensures c.if-not-is_key.false) _ c.plain-2.ensures c.take_off.ensures
+    off_accepted (row_none c.requires wide _ c.leaf_of-leaf.ensures c.is_key.ensures c.if-not-is_key.false) c.take_off.ensures

@@ -13,7 +13,7 @@ pub is_key-requires : goal.is_key-requires
 is_key-requires c = leaf_inside c.requires _ c.leaf_of-leaf.ensures
 
 pub returns-then-is_key : goal.returns-then-is_key
-returns-then-is_key c = on_refused 5 (λ e. omega (arith, e)) (row_five c.requires _ c.leaf_of-leaf.ensures c.is_key.ensures c.if-is_key.true) _ c.plain.ensures
+returns-then-is_key c = on_refused 5 (λ e. omega (arith, e)) (row_five c.requires _ c.leaf_of-leaf.ensures c.is_key.ensures c.if-is_key.true)
 
 pub width-w-requires : goal.width-w-requires
 width-w-requires c = header_long c.requires.sound

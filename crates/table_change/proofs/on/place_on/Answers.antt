@@ -12,7 +12,7 @@ pub open_on-requires : goal.open_on-requires
 open_on-requires c = fitting_key c.requires (rw c.count.ensures at c.has_room.ensures) c.if-has_room.true
 
 pub returns-then-has_room : goal.returns-then-has_room
-returns-then-has_room c = on_accepted (opens_accepted (fitting_key c.requires (rw c.count.ensures at c.has_room.ensures) c.if-has_room.true)) _ c.plain.ensures c.open_on.ensures
+returns-then-has_room c = on_accepted (opens_accepted (fitting_key c.requires (rw c.count.ensures at c.has_room.ensures) c.if-has_room.true)) c.open_on.ensures
 
 pub width-w-requires : goal.width-w-requires
 width-w-requires c = header_long c.requires.new_key.free_record.sound

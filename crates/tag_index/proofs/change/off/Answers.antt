@@ -4,7 +4,7 @@ use Rattle.tag_index.proofs.Changes.{off_unsound, off_sound}
 use Rattle.tag_index.proofs.change.off.Goals as goal
 
 pub returns-then-not-check : goal.returns-then-not-check
-returns-then-not-check c = off_unsound _ c.check.ensures _ c.if-not-check.true c.plain.ensures
+returns-then-not-check c = off_unsound _ c.check.ensures c.if-not-check.true
 
 pub off_sound-requires : goal.off_sound-requires
 off_sound-requires c =

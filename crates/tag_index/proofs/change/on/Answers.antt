@@ -4,7 +4,7 @@ use Rattle.tag_index.proofs.Changes.{on_unsound, on_sound}
 use Rattle.tag_index.proofs.change.on.Goals as goal
 
 pub returns-then-not-check : goal.returns-then-not-check
-returns-then-not-check c = on_unsound _ c.check.ensures _ c.if-not-check.true c.plain.ensures
+returns-then-not-check c = on_unsound _ c.check.ensures c.if-not-check.true
 
 pub on_sound-requires : goal.on_sound-requires
 on_sound-requires c =
