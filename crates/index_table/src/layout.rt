@@ -44,25 +44,6 @@ pub enum Answer {
     Dummy,
 }
 
-pub fn wide(x: u8) -> usize
-    ensures { (result ≡ x) × (result ≤ 255) }
-{
-    x as usize
-}
-
-pub fn wide16(x: u16) -> usize
-    ensures { (result ≡ x) × (result ≤ 65535) }
-{
-    x as usize
-}
-
-// A depth or a width of keys, as it is counted with.
-pub fn deep(x: u8) -> u64
-    ensures { result ≡ x }
-{
-    x as u64
-}
-
 // How many bytes the header and `pages` pages of `e` entries take.
 pub fn table_bytes(e: u8, pages: u16) -> usize
     ensures { result ≡ page_start (layout_of e) pages }

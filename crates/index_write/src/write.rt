@@ -8,7 +8,7 @@ ghost use Rattle.index_table.specs.Header.{header_bytes, with_root, with_held};
 ghost use Rattle.index_table.specs.Pages.{pages_at, used_pages};
 ghost use Rattle.index_write.specs.Storing.{Storable};
 
-use index_table::layout::{PageNo, count, page_start, wide};
+use index_table::layout::{PageNo, count, page_start};
 use page_tree::Row;
 
 // Two bytes, high byte first.
@@ -95,7 +95,7 @@ pub fn store_page(
     index[at] = level;
     index[at + 1] = n as u8;
     write_row(index, at + 2, row, from, to);
-    clear(index, at + 2 + 3 * n, 3 * (wide(e) - n));
+    clear(index, at + 2 + 3 * n, 3 * (usize::from(e) - n));
 }
 
 // The page is free: all its bytes are zero.

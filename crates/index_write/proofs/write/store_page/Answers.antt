@@ -19,4 +19,4 @@ pub shape_of-index : goal.shape_of-index
 shape_of-index c = c.clear.auto.index ∙ c.write_row.auto.index ∙ simp length-set
 
 pub returns : goal.returns
-returns c = rw (← c.page_start-at.ensures) (page_over _ _ _ _ _ _ _ _ (length_part _ _ (search rules, search rules) _ _ c.requires.places) c.requires.few c.write_row.ensures (rw c.wide.ensures.0 at c.clear.ensures))
+returns c = rw (← c.page_start-at.ensures) (page_over _ _ _ _ _ _ _ _ (length_part _ _ (search rules, search rules) _ _ c.requires.places) c.requires.few c.write_row.ensures (rw c.from.ensures at c.clear.ensures))
