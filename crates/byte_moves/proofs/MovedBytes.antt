@@ -5,8 +5,9 @@ use Prim.Native.Nat.{ℕ, zero, suc, ◌+◌, ◌-◌, ◌≤◌, ◌<◌}
 use native.Mathlib.Omega.{arith}
 use lib.ListN.{length, take, drop, set, length-set, length-drop, take-append-drop, drop_of_length-le}
 use lib.Seq.{sets, set_comm, set-set, set-get_or, drop-cons, take-take, drop-drop, take-add, take_all, length-take-le}
+use Rattle.std.proofs.lemmas.List.{drop-take}
 use Rattle.byte_moves.specs.Over.{over}
-use Rattle.byte_moves.proofs.OverLaws.{length_over, over_none, over_append, take_drop, part_behind, part_before}
+use Rattle.byte_moves.proofs.OverLaws.{length_over, over_none, over_append, part_behind, part_before}
 
 -- ---- a list written into what was written
 
@@ -58,7 +59,7 @@ module _ {A : Type 0} where
   -- A part of a part.
   pub part_part : (l : List A) (s n j m : ℕ) → j + m ≤ n → take m (drop j (take n (drop s l))) ≡ take m (drop (s + j) l)
   part_part l s n j m h =
-      take_drop j m (take n (drop s l)) ∙ ap (drop j) (take-take (j + m) n (drop s l) h) ∙ sym (take_drop j m (drop s l)) ∙ ap (take m) (drop-drop j s l)
+      sym (drop-take j m (take n (drop s l))) ∙ ap (drop j) (take-take (j + m) n (drop s l) h) ∙ drop-take j m (drop s l) ∙ ap (take m) (drop-drop j s l)
 
   -- A list cut in three: the parts before i, from there up to k, and from k on.
   front_part : (vs : List A) (i k : ℕ) → i ≤ k → take k vs ≡ take i vs ++ take (k - i) (drop i vs)

@@ -1,11 +1,12 @@
 -- A list written over another from a place on: what is read of it. Assumes nothing.
 use mathlib.Core.Path.{◌≡◌, refl, sym, ap, ◌∙◌}
 use mathlib.Core.List.{List, [], ◌∷◌, ◌++◌, append_assoc}
-use Prim.Native.Nat.{ℕ, zero, suc, ◌+◌, ◌≤◌, ◌<◌}
+use Prim.Native.Nat.{ℕ, suc, ◌+◌, ◌≤◌, ◌<◌}
 use native.Mathlib.Omega.{arith}
 use lib.ListN.{length, get_or, take, drop, set, length-take, length-drop}
-use lib.Seq.{sets, length-sets, sets-eq, take-set-le, drop-set-lt, take_at, drop_at, take-nil, get_or-take, get_or-drop, drop-drop, length-take-le}
+use lib.Seq.{sets, length-sets, sets-eq, take-set-le, drop-set-lt, take_at, drop_at, get_or-take, get_or-drop, drop-drop, length-take-le}
 use borrow.Rule.Slice.PartMut.{put_mid}
+use Rattle.std.proofs.lemmas.List.{drop-take}
 use Rattle.byte_moves.specs.Over.{over}
 
 module _ {A : Type 0} where
@@ -61,19 +62,13 @@ module _ {A : Type 0} where
       rw (sets-eq vs l i f, append_assoc (take i l) vs (drop (i + length vs) l), drop_at (take i l) (vs ++ drop (i + length vs) l) i t)
       (take_at vs (drop (i + length vs) l) n e)
 
-  -- A part of a list, cut off in either order.
-  pub take_drop : (j n : ℕ) (l : List A) → take n (drop j l) ≡ drop j (take (j + n) l)
-  take_drop zero n l = ap (λ (k : ℕ). take k l) (let e : n ≡ 0 + n = omega arith in e)
-  take_drop (suc j) n [] = take-nil n ∙ sym (ap (drop (suc j)) (take-nil (suc j + n)))
-  take_drop (suc j) n (x ∷ l) = take_drop j n l ∙ ap (λ (k : ℕ). drop (suc j) (take k (x ∷ l))) (let e : suc (j + n) ≡ suc j + n = omega arith in e)
-
   -- A part behind what was written stays.
   pub part_behind : (l : List A) (i j n : ℕ) (vs : List A) → i + length vs ≤ j → take n (drop j (over l i vs)) ≡ take n (drop j l)
   part_behind l i j n vs h = ap (take n) (drop_over j l i vs h)
 
   -- A part before what was written stays.
   pub part_before : (l : List A) (i j n : ℕ) (vs : List A) → j + n ≤ i → take n (drop j (over l i vs)) ≡ take n (drop j l)
-  part_before l i j n vs h = take_drop j n (over l i vs) ∙ ap (drop j) (take_over (j + n) l i vs h) ∙ sym (take_drop j n l)
+  part_before l i j n vs h = sym (drop-take j n (over l i vs)) ∙ ap (drop j) (take_over (j + n) l i vs h) ∙ drop-take j n l
 
   -- An element of what was written.
   pub get_d_over : (l : List A) (i k : ℕ) (vs : List A) (d : A) → i + length vs ≤ length l → k < length vs → get_or (over l i vs) (i + k) d ≡ get_or vs k d

@@ -5,8 +5,9 @@ use Prim.Native.Nat.{ℕ, suc, ◌+◌, ◌*◌, ◌≤◌, ◌<◌, ◌/◌, �
 use native.Mathlib.Omega.{arith}
 use lib.ListN.{length, get_or, take, drop, set, replicate}
 use lib.Seq.{get_or-take, sets, set-get_or}
+use Rattle.std.proofs.lemmas.List.{drop-take}
 use Rattle.byte_moves.specs.Over.{over}
-use Rattle.byte_moves.proofs.OverLaws.{take_drop, read_over, part_behind, get_d_over, get_d_over_behind, get_d_over_before}
+use Rattle.byte_moves.proofs.OverLaws.{read_over, part_behind, get_d_over, get_d_over_behind, get_d_over_before}
 use Rattle.index_table.specs.Bytes.{bytes_of}
 use Rattle.index_table.specs.Layout.{Layout, layout_of, page_size, page_start, page_bytes, store}
 use Rattle.index_table.specs.Header.{word_at, width_of, entries_of, pages_of, root_of, held_of, spare_of, header_bytes, with_root, with_held, HeaderFrom}
@@ -30,7 +31,7 @@ module _ (b b' : List ℕ) (front : take 16 b' ≡ take 16 b) where
     pages = ap₂ word (byte 2 (omega arith)) (byte 3 (omega arith));
     root = ap₂ word (byte 4 (omega arith)) (byte 5 (omega arith));
     held = ap₂ word (byte 6 (omega arith)) (byte 7 (omega arith));
-    spare = take_drop 8 8 b' ∙ ap (drop 8) front ∙ sym (take_drop 8 8 b);
+    spare = sym (drop-take 8 8 b') ∙ ap (drop 8) front ∙ drop-take 8 8 b;
   }
 
   -- The root that is there, written again.
@@ -141,5 +142,5 @@ module _ (w e p root held : ℕ) (b : List ℕ) (long : 16 ≤ length b) (pages_
     pages = ap₂ word (read 2 (omega arith)) (read 3 (omega arith)) ∙ omega arith;
     root = ap₂ word (read 4 (omega arith)) (read 5 (omega arith)) ∙ omega arith;
     held = ap₂ word (read 6 (omega arith)) (read 7 (omega arith)) ∙ omega arith;
-    spare = take_drop 8 8 (over b 0 (header_bytes w e p root held)) ∙ ap (drop 8) (read_over b 0 16 (header_bytes w e p root held) (length_header w e p root held) (omega arith) ∙ header_bytes_are);
+    spare = sym (drop-take 8 8 (over b 0 (header_bytes w e p root held))) ∙ ap (drop 8) (read_over b 0 16 (header_bytes w e p root held) (length_header w e p root held) (omega arith) ∙ header_bytes_are);
   }

@@ -11,7 +11,7 @@ ghost use Rattle.index_write.specs.Storing.{Storable};
 use index_table::layout::{PageNo, count, page_start};
 use page_tree::Row;
 
-// Two bytes, high byte first.
+// Two bytes, high byte first: `set_root` and `set_held` are a call of it each, at their places in the header.
 fn write_word(index: &mut [u8], at: usize, n: u16)
     requires { at + 2 ≤ length index.old }
     ensures { index.new ≡ over index.old at (bytes_of 2 n) }

@@ -42,7 +42,7 @@ pub fn too_wide(w: u64, key: u64) -> bool
     requires { w ≤ 64 }
     ensures { result ≡ leb (2 ^ w) key }
 {
-    w < 64 && (key >> w) != 0
+    w != 64 && (key >> w) != 0
 }
 
 // The discriminator after disc and an entry of depth d: bit d is set, and the later bits are clear.

@@ -5,8 +5,9 @@ use Prim.Native.Nat.{ℕ, suc, ◌+◌, ◌*◌, ◌-◌, ◌≤◌, ◌<◌}
 use native.Mathlib.Omega.{arith}
 use lib.ListN.{length, get_or, take, drop, set, replicate, length-append, length-take, length-drop, length-set, length-replicate, replicate-append-replicate, take-append-drop}
 use lib.Seq.{drop_at, take_at, take-take, drop-drop, set_split, split_at, length-take-le}
+use Rattle.std.proofs.lemmas.List.{drop-take}
 use Rattle.byte_moves.specs.Over.{over}
-use Rattle.byte_moves.proofs.OverLaws.{over_one, take_drop}
+use Rattle.byte_moves.proofs.OverLaws.{over_one}
 use Rattle.index_table.specs.Layout.{Layout, layout_of, page_size, page_start, page_bytes, level_of, count_of, Ref, refs_of, ref_bytes, row_bytes, page_of, row_page, Fitting, store}
 use Rattle.index_table.specs.Pages.{pages_at}
 use Rattle.index_table.proofs.PageBytes.{page_stored, length_store}
@@ -56,7 +57,7 @@ module _ {e : ℕ} {b : List ℕ} {p : ℕ} (h : WholePage e b p) where
       let m = 3 * (e - length row) in
       let f = h.few in
       let all : k + m ≡ page_size L = omega (arith, f) in
-      sym (ap (take m) (drop-drop k (page_start L p) b)) ∙ take_drop k m (drop (page_start L p) b) ∙ ap (λ (j : ℕ). drop k (take j (drop (page_start L p) b))) all
+      sym (ap (take m) (drop-drop k (page_start L p) b)) ∙ sym (drop-take k m (drop (page_start L p) b)) ∙ ap (λ (j : ℕ). drop k (take j (drop (page_start L p) b))) all
       ∙ ap (drop k) h.bytes ∙ drop_at (head ++ row_bytes 2 row) spare k (length-append head (row_bytes 2 row) ∙ omega (arith, length_row_bytes 2 row))
 
   page_long : (row' : List Ref) → length row' ≤ e → length (row_page e level row') ≡ page_size L
@@ -154,8 +155,8 @@ module _ {e : ℕ} {b : List ℕ} {p : ℕ} (h : WholePage e b p) where
         let k = 2 + 3 * to in
         let m = 3 * (length row - to) in
         let f = h.few in
-        sym (ap (take m) (drop-drop k (page_start L p) b)) ∙ take_drop k m (drop (page_start L p) b)
-        ∙ ap (drop k) (sym (take-take (k + m) (page_size L) (drop (page_start L p) b) (omega (arith, f)))) ∙ sym (take_drop k m (take (page_size L) (drop (page_start L p) b)))
+        sym (ap (take m) (drop-drop k (page_start L p) b)) ∙ sym (drop-take k m (drop (page_start L p) b))
+        ∙ ap (drop k) (sym (take-take (k + m) (page_size L) (drop (page_start L p) b) (omega (arith, f)))) ∙ drop-take k m (take (page_size L) (drop (page_start L p) b))
         ∙ ap (λ (t : List ℕ). take m (drop k t)) page_is
         ∙ ap (take m) (drop_at ((head ++ row_bytes 2 fs) ++ row_bytes 2 ms) (row_bytes 2 cs ++ spare) k (length-append (head ++ row_bytes 2 fs) (row_bytes 2 ms) ∙ omega (arith, head_long fs, length_row_bytes 2 ms, la, lm)))
         ∙ take_at (row_bytes 2 cs) spare m (length_row_bytes 2 cs ∙ omega (arith, lc))

@@ -1,10 +1,11 @@
 -- A page's bytes changed in part: those of one entry, or of the entries behind some that go (01, "Pages"). Assumes nothing.
 use mathlib.Core.Path.{◌≡◌, sym, ap, ap₂, ◌∙◌}
 use mathlib.Core.List.{List, ◌++◌, append_assoc}
-use Prim.Native.Nat.{ℕ, ◌+◌, ◌-◌, ◌≤◌}
+use Prim.Native.Nat.{ℕ, ◌+◌, ◌≤◌}
 use native.Mathlib.Omega.{arith}
-use lib.ListN.{length, take, drop, replicate, length-replicate, replicate-append-replicate, length-append, length-take, length-drop, take-append-drop}
-use lib.Seq.{sets-eq, take-add, take-take, take_at, take-append_seam, drop_at, drop-drop, length-take-le}
+use lib.ListN.{length, take, drop, replicate, length-append, length-take, length-drop, take-append-drop}
+use lib.Seq.{sets-eq, take-add, take-take, take-append_seam, drop_at, drop-drop, length-take-le}
+use Rattle.std.proofs.lemmas.List.{take-replicate}
 use Rattle.byte_moves.specs.Over.{over}
 use Rattle.byte_moves.proofs.OverLaws.{over_append}
 use Rattle.index_table.specs.Layout.{Layout, page_size, page_start, Within, page_bytes, store}
@@ -30,11 +31,6 @@ module _ {A : Type 0} where
 
 -- ---- bytes moved down, and zeros behind them
 
-fewer_zeros : (n m : ℕ) → n ≤ m → ◌≡◌ {A = List ℕ} (take n (replicate m 0)) (replicate n 0)
-fewer_zeros n m h =
-    let e : m ≡ n + (m - n) = omega arith in
-    ap (λ (k : ℕ). take n (replicate k 0)) e ∙ ap (take n) (sym (replicate-append-replicate n (m - n) 0)) ∙ take_at (replicate n 0) (replicate (m - n) 0) n (length-replicate n 0)
-
 module _ (b : List ℕ) (at gone n : ℕ) where
   abbrev tail : List ℕ
   tail = take n (drop (at + gone) b)
@@ -44,7 +40,7 @@ module _ (b : List ℕ) (at gone n : ℕ) where
   zeros_along free h z =
       take-add n gone (drop (at + gone) b)
       ∙ ap (λ (t : List ℕ). tail ++ t)
-      (ap (take gone) (drop-drop n (at + gone) b) ∙ sym (take-take gone free (drop (at + gone + n) b) h) ∙ ap (take gone) z ∙ fewer_zeros gone free h)
+      (ap (take gone) (drop-drop n (at + gone) b) ∙ sym (take-take gone free (drop (at + gone + n) b) h) ∙ ap (take gone) z ∙ take-replicate gone free 0 h)
 
   -- or zeros are written.
   pub zeros_written : at + gone + n ≤ length b → {b₁ b₂ : List ℕ} → b₁ ≡ over b at tail → b₂ ≡ over b₁ (at + n) (replicate gone 0) → b₂ ≡ over b at (tail ++ replicate gone 0)
