@@ -8,7 +8,9 @@ use denote.Bor.{Bor}
 use denote.MutBor.{MutBor}
 use lib.ListN.{length, take}
 use Rattle.std.specs.Prelude.{Result, Ok, Err}
-use Rattle.table_find.specs.declared.answer.Answer.{Answer}
+use Rattle.index_table.specs.declared.refusal.Refusal.{Refusal}
+use Rattle.index_table.specs.Refusals.{answer_number}
+use Rattle.table_find.specs.Answers.{plain}
 use Rattle.table_format.specs.Format.{format_fits, FormatDoes}
 use Rattle.table_format.proofs.EmptySound.{format_sound, format_lengths, format_width, format_empties}
 use Rattle.table_format.proofs.format.Reads as format_reads
@@ -108,12 +110,12 @@ pub record Opened (t : Tables) : Type 0 where
   pub given : Tables
   pub before : Lent given
   pub after : Lent t
-  pub answer : Answer
+  pub result : Result (Unit {0}) Refusal
   pub table_long : length given.index ≡ 45516
   pub keys_long : length given.keys ≡ 4096
   pub used_long : length given.used ≡ 4096
   pub post :
-      format_reads.Post κs (before.index, (before.keys, (before.used, (64, (60, (250, tt)))))) answer
+      format_reads.Post κs (before.index, (before.keys, (before.used, (64, (60, (250, tt)))))) result
       (after.index, (after.keys, (after.used, (64, (60, (250, tt))))))
 
 abbrev pub book_sizes : Sizes
@@ -127,7 +129,7 @@ room = refl
 opened_holds : {t : Tables} → Opened t → Holds book_sizes (empty_map 64) t
 opened_holds {t} o =
     let g = o.given in
-    let does : FormatDoes 64 60 250 g.index g.keys g.used t.index t.keys t.used o.answer =
+    let does : FormatDoes 64 60 250 g.index g.keys g.used t.index t.keys t.used (plain (answer_number o.result)) =
     rw (sym o.before.index_is, sym o.before.keys_is, sym o.before.used_is, sym o.after.index_is, sym o.after.keys_is, sym o.after.used_is) o.post in
     let sizes : sizes_of g ≡ book_sizes = λ i. record { table = o.table_long i; keys = o.keys_long i; used = o.used_long i } in
     let fits : formats (sizes_of g) 64 60 250 ≡ true = ap (λ (z : Sizes). formats z 64 60 250) sizes ∙ room in

@@ -1,6 +1,7 @@
 -- What is shown of each call can be written, and is. Assumes nothing.
 use mathlib.Core.Path.{◌≡◌, refl, sym, ap, subst, ◌∙◌}
 use mathlib.Core.Bool.{Bool, true, false, cond, ◌&&◌, ◌||◌}
+use mathlib.Core.Logic.{◌≢◌}
 use mathlib.Core.Option.{Option, none, some}
 use mathlib.Core.List.{List, [], ◌∷◌, ◌++◌}
 use Prim.Native.Nat.{ℕ, zero, suc, ◌≤◌}
@@ -8,6 +9,7 @@ use native.Mathlib.Omega.{arith}
 use lib.Dec.{eqb, leb}
 use lib.ListN.{length, take, drop, replicate, length-take}
 use Rattle.std.specs.Prelude.{Result, Ok, Err}
+use borrow.Author.Tests.{ne_eqb}
 use Rattle.leaf_list.specs.Herd.{Herd, lookup, records_of}
 use Rattle.leaf_list.specs.Register.{in_use, herd_of}
 use Rattle.leaf_list.proofs.RegisterHerd.{herd_of_holds, lookup_holds}
@@ -21,7 +23,7 @@ use Rattle.table_list.specs.Ranges.{between, records_between, listed, list_slice
 use Rattle.tag_index.specs.Reading.{first_row, behind, kept_behind, FindDoes, ListDoes}
 use Rattle.table_change.specs.Changes.{too_wide}
 use Rattle.book_answers.specs.Writing.{RecordNumbers, Writable, AnswerWritten}
-use Rattle.day_book.specs.Books.{Shown, number_alone, slice}
+use Rattle.day_book.specs.Books.{Shown, number_alone, find_shown, slice}
 use Rattle.tag_index.specs.Tables.{Tables}
 use Rattle.book_lines.specs.declared.Call.{Call}
 use Rattle.book_lines.specs.declared.Declined.{Declined}
@@ -81,6 +83,10 @@ find_small {index} {keys} {used} {key} {a} does = subst (λ (x : Answer). x.«re
     go true e true = omega arith
     go true e false = record_of (does.judged.decides.0 e) (lookup key (herd_of keys used)) refl
     go false e wide = omega arith
+
+-- A find that is refused shows its number alone.
+pub find_refused : (n : ℕ) → n ≢ 0 → number_alone n ≡ find_shown (plain n)
+find_refused n h = rw (ne_eqb n 0 h)
 
 -- ---- list
 

@@ -6,6 +6,7 @@ ghost use Rattle.day_book.specs.LineAnswers.{tables, OnLineDoes, OffLineDoes, Fi
 
 use book_answers::write_answer;
 use book_lines::Call;
+use table_find::answer::Answer;
 
 // An `on` line.
 fn on_line(
@@ -20,7 +21,7 @@ fn on_line(
     requires { 256 ≤ length out.old }
     ensures { OnLineDoes key «record» (tables index.old keys.old used.old) (tables index.new keys.new used.new) number out.old out.new result }
 {
-    let a = tag_index::change::on(index, keys, used, key, record);
+    let a = Answer::from(tag_index::change::on(index, keys, used, key, record));
     write_answer(out, number, a.number, &[], false)
 }
 
@@ -36,7 +37,7 @@ fn off_line(
     requires { 256 ≤ length out.old }
     ensures { OffLineDoes key (tables index.old keys.old used.old) (tables index.new keys.new used.new) number out.old out.new result }
 {
-    let a = tag_index::change::off(index, keys, used, key);
+    let a = Answer::from(tag_index::change::off(index, keys, used, key));
     write_answer(out, number, a.number, &[], false)
 }
 
@@ -52,11 +53,10 @@ fn find_line(
     requires { 256 ≤ length out.old }
     ensures { FindLineDoes key (tables index.now keys.now used.now) number out.old out.new result }
 {
-    let a = tag_index::read::find(index, keys, used, key);
-    if a.number != 0 {
-        return write_answer(out, number, a.number, &[], false);
+    match tag_index::read::find(index, keys, used, key) {
+        Ok(record) => write_answer(out, number, 0, &[record.0], false),
+        Err(refusal) => declined_line(u32::from(refusal), number, out),
     }
-    write_answer(out, number, a.number, &[a.record], false)
 }
 
 // A `list` line: at most 32 records.
@@ -73,9 +73,10 @@ fn list_line(
     ensures { ListLineDoes from to (tables index.now keys.now used.now) number out.old out.new result }
 {
     let mut records = [0u32; 32];
-    let a = tag_index::read::list(index, keys, used, from, to, &mut records);
-    let listed = &records[..a.count as usize];
-    write_answer(out, number, a.number, listed, a.more)
+    match tag_index::read::list(index, keys, used, from, to, &mut records) {
+        Ok(listed) => write_answer(out, number, 0, &records[..listed.count], listed.more),
+        Err(refusal) => declined_line(u32::from(refusal), number, out),
+    }
 }
 
 // A line that asks for no call.

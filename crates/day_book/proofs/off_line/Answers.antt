@@ -1,5 +1,8 @@
 -- The answer to an `off` line. Assumes nothing.
-use mathlib.Core.Path.{refl}
+use mathlib.Core.Path.{ap}
+use Rattle.table_find.specs.declared.answer.Answer.{Answer}
+use Rattle.table_find.specs.Answers.{plain}
+use Rattle.index_table.specs.Refusals.{answer_number}
 use Rattle.day_book.specs.Books.{number_alone}
 use Rattle.day_book.proofs.Showing.{shown_at}
 use Rattle.day_book.proofs.off_line.Goals as goal
@@ -7,7 +10,7 @@ use Rattle.day_book.proofs.off_line.Goals as goal
 pub returns : goal.returns
 returns c =
     record {
-      shown = number_alone c.off-a.result.number;
-      does = record { answer = c.off-a.result; does = c.off-a.ensures; shows = refl };
-      written = shown_at (number_alone c.off-a.result.number) c.write_answer.ensures;
+      shown = number_alone c.from-a.result.number;
+      does = record { answer = plain (answer_number c.off.result); does = c.off.ensures; shows = ap (λ (a : Answer). number_alone a.number) c.from-a.ensures };
+      written = shown_at (number_alone c.from-a.result.number) c.write_answer.ensures;
     }
