@@ -1,6 +1,6 @@
 // Bytes moved within the index table, up to 32 at once: all of them are read before one is written, so that places may overlap.
 // Tried, and slower: `copy_within`, compiled from a loop over single bytes. It takes 1.5 to 3 times the instructions for up to 180 bytes, and up to
-// twice the time for up to 60.
+// twice the time for up to 60. So is a `for` over the parts, which the compiler unrolls: 4 instructions more at an on, 17 at an off.
 #![tactic(auto)]
 
 ghost use Rattle.std.specs.Prelude.{◌≡◌, ◌+◌, ◌≤◌, length, take, drop};
@@ -74,8 +74,9 @@ pub fn move_up(index: &mut [u8], from: usize, n: usize, by: usize)
         return;
     }
     let first_bytes = load::<32>(index, from);
-    for part in 0..(n - 1) / 32 {
-        let i = n - 32 * (part + 1);
+    let mut i = n;
+    while i > 32 {
+        i -= 32;
         move_part::<32>(index, to + i, from + i);
     }
     store(index, to, first_bytes);
@@ -92,9 +93,10 @@ pub fn move_down(index: &mut [u8], at: usize, from: usize, n: usize)
     }
     let last = n - 32;
     let last_bytes = load::<32>(index, from + last);
-    for part in 0..(n - 1) / 32 {
-        let i = 32 * part;
+    let mut i = 0;
+    while i < last {
         move_part::<32>(index, at + i, from + i);
+        i += 32;
     }
     store(index, at + last, last_bytes);
 }

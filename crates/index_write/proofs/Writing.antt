@@ -1,10 +1,11 @@
 -- What the stores of the writers are, one step at a time. Assumes nothing.
-use mathlib.Core.Path.{◌≡◌, ◌∙◌}
-use mathlib.Core.List.{List}
+use mathlib.Core.Path.{◌≡◌, refl, ap₂, ◌∙◌}
+use mathlib.Core.List.{List, [], ◌∷◌}
 use Prim.Native.Nat.{ℕ, ◌+◌, ◌≤◌, ◌<◌, ◌/◌, ◌%◌}
 use native.Mathlib.Omega.{arith}
 use native.Mathlib.Numerals.{add-one, add-two}
-use lib.ListN.{set, replicate}
+use lib.ListN.{length, set, replicate}
+use Rattle.std.specs.List.{FoldsTo}
 use Rattle.byte_moves.specs.Over.{over}
 use Rattle.index_table.specs.Bytes.{bytes_of}
 use Rattle.index_table.specs.Layout.{Layout, page_bytes, count_of, ref_bytes}
@@ -23,6 +24,12 @@ pub header_over : (b b₁ b₂ b₃ b₄ : List ℕ) (w e p root held : ℕ) →
     → b₄ ≡ over b₃ 8 (replicate 8 0) → b₄ ≡ over b 0 (header_bytes w e p root held)
 unfolding over bytes_of header_bytes
 header_over b b₁ b₂ b₃ b₄ w e p root held x y z t = t ∙ rw (z, y, x)
+
+-- What is filled by calls that each give 0.
+pub zeros_filled : {F : Type 0} (step : F → ℕ → F → Type 0) (f : F) (bytes : List ℕ) (last : F) → FoldsTo step f bytes last → ((f : F) (x : ℕ) (g : F) → step f x g → x ≡ 0)
+    → bytes ≡ replicate (length bytes) 0
+zeros_filled step f [] last h zero = refl
+zeros_filled step f (x ∷ bytes) last h zero = ap₂ (λ (y : ℕ) (ys : List ℕ). y ∷ ys) (zero _ x _ h.1) (zeros_filled step h.0 bytes last h.2 zero)
 
 -- The pages before page i are all in use; so is page i.
 pub all_used_more : (L : Layout) (b : List ℕ) (i : ℕ) → i ≤ used_pages i (pages_at L b) → (count_of (page_bytes L b i) ≡ 0 → ⊥) → i + 1 ≤ used_pages (i + 1) (pages_at L b)

@@ -1,7 +1,9 @@
--- The loop's invariant: all bytes but the first n - 32 part are moved. Assumes nothing.
-use Prim.Native.Nat.{◌*◌, ◌-◌}
+-- The loop's invariant: the bytes from place i on are moved. Assumes nothing.
 use Rattle.byte_moves.proofs.MovedBytes.{Raised}
 use Rattle.byte_moves.proofs.move_up.Given as goal
 
-abbrev pub invariant-loop-part : goal.invariant-loop-part
-invariant-loop-part l = Raised l.initial.index l.to l.from l.n (l.n - 32 * l.part) l.index
+abbrev pub invariant-loop-i : goal.invariant-loop-i
+invariant-loop-i l = Raised l.initial.index l.to l.from l.n l.i l.index
+
+abbrev pub decreases-loop-i : goal.decreases-loop-i
+decreases-loop-i l = l.i
