@@ -7,7 +7,7 @@ use Rattle.day_book.proofs.Showing.{shown_at, list_writable}
 use Rattle.day_book.proofs.list_line.Goals as goal
 
 pub write_answer-requires : goal.write_answer-requires
-write_answer-requires c = list_writable c.in-Ok.ensures c.list.auto.out c.requires
+write_answer-requires c = list_writable c.in-Ok.ensures c.requires
 
 pub returns-in-Ok : goal.returns-in-Ok
 returns-in-Ok c =
