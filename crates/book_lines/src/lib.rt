@@ -6,8 +6,6 @@ ghost use Rattle.book_tags.specs.Tags.{record_at_most};
 ghost use Rattle.book_lines.specs.Lines.{declined_for, declined_number, meaning, two_fields, three_fields, on_line, list_line};
 
 use book_tags::{TagError, read_record, read_tag};
-use std::error::Error;
-use std::fmt;
 use tag_code::OutOfRange;
 
 // A call that a line asks for, with its arguments.
@@ -37,17 +35,6 @@ impl Declined {
         }
     }
 }
-
-impl fmt::Display for Declined {
-    fn fmt<W: fmt::Write>(&self, f: &mut fmt::Formatter<W>) -> fmt::Result {
-        match self {
-            Declined::Bad => write!(f, "bad line"),
-            Declined::OutOfRange => OutOfRange.fmt(f),
-        }
-    }
-}
-
-impl Error for Declined {}
 
 impl From<TagError> for Declined {
     ghost from_gives = { λ e declined. declined ≡ declined_for e };

@@ -7,8 +7,6 @@ ghost use Rattle.std.specs.Prelude.{◌≡◌};
 ghost use Rattle.book_tags.specs.Tags.{tag_of, decimal_tag, hexadecimal_tag, record_of};
 
 use digits::read_number;
-use std::error::Error;
-use std::fmt;
 use tag_code::{OutOfRange, TagFields, pack, unpack};
 
 // Why a field that should be a tag writes none.
@@ -17,17 +15,6 @@ pub enum TagError {
     Malformed,
     OutOfRange,
 }
-
-impl fmt::Display for TagError {
-    fn fmt<W: fmt::Write>(&self, f: &mut fmt::Formatter<W>) -> fmt::Result {
-        match self {
-            TagError::Malformed => write!(f, "no tag"),
-            TagError::OutOfRange => OutOfRange.fmt(f),
-        }
-    }
-}
-
-impl Error for TagError {}
 
 impl From<OutOfRange> for TagError {
     ghost use Rattle.book_tags.specs.declared.TagError.{TagError};

@@ -15,7 +15,7 @@ use Rattle.table_search.specs.declared.Spot.{Spot}
 use Rattle.table_search.specs.Places.{left_from, Stopped}
 use Rattle.table_search.proofs.Descents.{leaves_at, descend_walk, descend_down}
 use Rattle.std.specs.declared.ops.ControlFlow.TheVariants.{Break}
-use Rattle.table_list.specs.declared.End.{End}
+use Rattle.table_find.specs.declared.answer.Counted.{Counted}
 use Rattle.table_list.specs.Listings.{State, begun, visited, visit_all, leaves_from, leaves_right, Inside, RowPre, RowListed, FromPre, FromListed}
 use Rattle.table_list.proofs.RowWalks.{pointer_read, row_over}
 
@@ -95,7 +95,7 @@ from_right {index} {keys} {e} {page} {w} {a} {position} {trail} {b} (suc n) k pr
 -- Where the list ended in the child, nothing to its right is visited.
 pub from_over : {index keys : List ℕ} {e page w a position trail b : ℕ} (level : ℕ) → (level ≡ 0 → ⊥) → (pre : FromPre index keys e level page w a position) (s : Spot)
     → Stopped w a position trail (pages_at (layout_of e) index page) s → (below : ℕ) → below ≡ (ref_at (layout_of e) (page_bytes (layout_of e) index page) s.at).1
-    → (out : List ℕ) (r : State) {end : End} → r.1 ≡ Break end → FromListed index keys e (level - 1) below w a b s.position s.trail out r
+    → (out : List ℕ) (r : State) {end : Counted} → r.1 ≡ Break end → FromListed index keys e (level - 1) below w a b s.position s.trail out r
     → FromListed index keys e level page w a b position trail out r
 from_over {index} {keys} {e} {page} {b = b} level k pre s stop below q out r over f =
     from_right level k pre s stop below q out r r f (row_over index keys e level page (s.at + 1) _ b over)

@@ -19,7 +19,7 @@ use Rattle.index_table.proofs.Pointers.{record_live}
 use Rattle.table_search.proofs.Stops.{read_entry}
 use Rattle.table_search.proofs.Descents.{leaves_at}
 use Rattle.std.specs.declared.ops.ControlFlow.TheVariants.{Break}
-use Rattle.table_list.specs.declared.End.{End}
+use Rattle.table_find.specs.declared.answer.Counted.{Counted}
 use Rattle.table_list.specs.Listings.{State, visited, visit_all, leaves_right, Inside, VisitPre, RowPre, RowListed}
 use Rattle.table_list.proofs.Visits.{visit_over}
 
@@ -89,7 +89,7 @@ row_below {index} {keys} {e} (suc n) k pre i below h q =
 -- ---- the loop over a page's entries
 
 -- Once the list has ended, nothing is visited.
-pub row_over : (index keys : List ℕ) (e n page from a b : ℕ) {s : State} {end : End} → s.1 ≡ Break end → RowListed index keys e n page from a b s s
+pub row_over : (index keys : List ℕ) (e n page from a b : ℕ) {s : State} {end : Counted} → s.1 ≡ Break end → RowListed index keys e n page from a b s s
 row_over index keys e n page from a b {s} h = record { walked = sym (visit_over keys a b s (leaves_right index e n page from) h) }
 
 module _ (index keys : List ℕ) (e n page from a b : ℕ) where
@@ -122,7 +122,7 @@ module _ (index keys : List ℕ) (e n page from a b : ℕ) where
         parted = ap (λ (l : List Ref). flats (leaves n) (map (node_at 65535 n (pages_at (layout_of e) index)) l)) (drop-cons (pages_at (layout_of e) index page) i (0, 0) h)
 
     -- A list that is over visits no more.
-    pub walking_over : {end : End} → now.1 ≡ Break end → RowListed index keys e n page from a b start now
+    pub walking_over : {end : Counted} → now.1 ≡ Break end → RowListed index keys e n page from a b start now
     walking_over h = record { walked = sym (visit_over keys a b now (leaves_right index e n page i) h) ∙ w.left }
 
     -- The row's end.

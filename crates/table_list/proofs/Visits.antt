@@ -15,7 +15,7 @@ use Rattle.leaf_list.specs.Herd.{Herd, Above, Sorted, KeysOf, records_of}
 use Rattle.leaf_list.specs.Register.{key_at}
 use Rattle.leaf_list.proofs.Lists.{All}
 use Rattle.std.specs.declared.ops.ControlFlow.TheVariants.{Break}
-use Rattle.table_list.specs.declared.End.{End}
+use Rattle.table_find.specs.declared.answer.Counted.{Counted}
 use Rattle.table_list.specs.Ranges.{between, records_between, list_slice}
 use Rattle.table_list.specs.Listings.{State, Listing, going, ended, full, count_in, more_in, written, met, visited, visit_all}
 
@@ -64,18 +64,18 @@ module _ (keys : List ℕ) (a b : ℕ) where
   visit_live s (entry d (some r) ∷ es) = visit_live (visited keys a b s (some r)) es
 
   -- A list that is over stays as it is.
-  visited_over : (s : State) (o : Option ℕ) {end : End} → s.1 ≡ Break end → visited keys a b s o ≡ s
+  visited_over : (s : State) (o : Option ℕ) {end : Counted} → s.1 ≡ Break end → visited keys a b s o ≡ s
   unfolding visited
   visited_over s none h = refl
   visited_over s (some r) h = rw h refl
 
   -- So over any entries,
-  pub visit_over : (s : State) (es : List Entry) {end : End} → s.1 ≡ Break end → visit_all keys a b s es ≡ s
+  pub visit_over : (s : State) (es : List Entry) {end : Counted} → s.1 ≡ Break end → visit_all keys a b s es ≡ s
   visit_over s [] h = refl
   visit_over s (e ∷ es) h = rw (visited_over s (pointer_of e) h) (visit_over s es h)
 
   -- and over any records.
-  records_over : (s : State) (rs : List ℕ) {end : End} → s.1 ≡ Break end → visit_records s rs ≡ s
+  records_over : (s : State) (rs : List ℕ) {end : Counted} → s.1 ≡ Break end → visit_records s rs ≡ s
   records_over s [] h = refl
   records_over s (r ∷ rs) h = rw (visited_over s (some r) h) (records_over s rs h)
 

@@ -15,14 +15,14 @@ use Rattle.table_search.specs.Places.{left_from, DescendPre}
 use Rattle.table_find.specs.declared.answer.Answer.{Answer}
 use Rattle.std.specs.declared.ops.ControlFlow.{ControlFlow}
 use Rattle.std.specs.declared.ops.ControlFlow.TheVariants.{Continue, Break}
-use Rattle.table_list.specs.declared.End.{End}
+use Rattle.table_find.specs.declared.answer.Counted.{Counted}
 use Rattle.table_list.specs.Ranges.{records_between, listed, list_slice}
 
 -- ---- one entry after the other
 
 -- How far a list has come: how many records are written, where it goes on, or its end.
 abbrev pub Listing : Type 0
-Listing = ControlFlow End ℕ
+Listing = ControlFlow Counted ℕ
 
 -- The lent slice, and how far the list has come.
 abbrev pub State : Type 0

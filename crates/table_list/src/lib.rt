@@ -14,17 +14,8 @@ use std::ops::ControlFlow::{self, Break, Continue};
 use table_find::answer::Counted;
 use table_search::seek;
 
-// What a list comes to where it ends before the entries do.
-#[derive(Clone, Copy)]
-struct End {
-    // The records written.
-    pub count: usize,
-    // Whether one more was met that found no room.
-    pub more: bool,
-}
-
 // How far a list has come: the records written, where it goes on, or its end.
-type Listing = ControlFlow<End, usize>;
+type Listing = ControlFlow<Counted, usize>;
 
 // An entry on level 0: a record with a key from a to b is written behind those written, or is one more where the slice is full.
 fn visit(keys: &[u64], stored: u32, a: u64, b: u64, out: &mut [u32], written: usize) -> Listing
@@ -40,13 +31,13 @@ fn visit(keys: &[u64], stored: u32, a: u64, b: u64, out: &mut [u32], written: us
         return Continue(written);
     }
     if key > b {
-        return Break(End {
+        return Break(Counted {
             count: written,
             more: false,
         });
     }
     if written >= out.len() {
-        return Break(End {
+        return Break(Counted {
             count: written,
             more: true,
         });
@@ -160,9 +151,8 @@ pub fn list_held(
     let e = h.entries;
     let level = index_table::layout::level(index, e, h.root);
     let position = table_search::next_position(w, a, 0);
-    let (count, more) = match list_from(index, keys, e, level, h.root, w, a, b, position, 0, out) {
-        Continue(count) => (count, false),
-        Break(end) => (end.count, end.more),
-    };
-    Counted { count, more }
+    match list_from(index, keys, e, level, h.root, w, a, b, position, 0, out) {
+        Continue(count) => Counted { count, more: false },
+        Break(end) => end,
+    }
 }

@@ -4,9 +4,6 @@
 ghost use Rattle.std.specs.Prelude.{◌≡◌, ◌+◌, ◌*◌, ◌/◌, ◌%◌, ◌^◌, ◌-◌, ◌<◌};
 ghost use Rattle.tag_code.specs.TagCode.{fields_fit, packed, unpacked, as_packed, as_unpacked};
 
-use std::error::Error;
-use std::fmt;
-
 // The fields of a tag, from bit 1 of its code to bit 64.
 #[repr(C)]
 #[derive(Clone, Copy, Debug, Default, PartialEq, Eq)]
@@ -63,14 +60,6 @@ impl OutOfRange {
     // The answer number of a call that is refused for this.
     pub const NUMBER: u32 = 11;
 }
-
-impl fmt::Display for OutOfRange {
-    fn fmt<W: fmt::Write>(&self, f: &mut fmt::Formatter<W>) -> fmt::Result {
-        write!(f, "country above 999, or a field too large for its bits")
-    }
-}
-
-impl Error for OutOfRange {}
 
 impl From<Result<u64, OutOfRange>> for Packed {
     ghost from_gives = { λ answer p. p ≡ as_packed answer };

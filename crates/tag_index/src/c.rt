@@ -76,11 +76,11 @@ pub fn tag_index_load(
 ) -> Answer
     ensures { LoadDoes (tables index.old keys.old used.old) movements.now answers.old (tables index.new keys.new used.new) answers.new result }
 {
-    let row = crate::load::load_row(index, keys, used, answers, movements.len());
-    let n = crate::load::turns(row, movements.len());
+    let answer = Answer::from(crate::load::load_row(index, keys, used, answers, movements.len()));
+    let n = crate::load::turns(answer.number, movements.len());
     for i in 0..n {
         let m = movements[i];
         crate::load::move_one(index, keys, used, m.key, m.record, m.on, answers, i);
     }
-    Answer::from(row)
+    answer
 }

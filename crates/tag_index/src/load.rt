@@ -60,11 +60,8 @@ pub fn load_row(
 }
 
 // Tells how many movements a load makes: all of them, and none where a row declines it. So the loop of `tag_index_load` has no branch.
-pub fn turns(row: Result<(), Refusal>, movements: usize) -> usize
-    ensures { result ≡ turns_of (answer_number row) movements }
+pub fn turns(row: u32, movements: usize) -> usize
+    ensures { result ≡ turns_of row movements }
 {
-    match row {
-        Ok(()) => movements,
-        Err(_) => 0,
-    }
+    if row == 0 { movements } else { 0 }
 }
