@@ -15,12 +15,13 @@ pub fn append_page(row: Row, index: &[u8], e: u8, page: PageNo, from: usize, to:
     ensures { Holds result (row.count + (to - from)) (row_of row ++ slice from to (pages_at (layout_of e) index.now page.0)) }
 {
     let mut r = row;
+    let mut k = r.count;
     for i in from..to {
-        let k = r.count;
         r.depths[k] = depth(index, e, page, i);
         r.pointers[k] = pointer(index, e, page, i);
-        r.count = k + 1;
+        k += 1;
     }
+    r.count = k;
     r
 }
 

@@ -93,12 +93,13 @@ impl Row {
         ensures { Holds result (self.count + (to - from)) (row_of self ++ part_of other from to) }
     {
         let mut r = self;
+        let mut k = r.count;
         for i in from..to {
-            let k = r.count;
             r.depths[k] = other.depths[i];
             r.pointers[k] = other.pointers[i];
-            r.count = k + 1;
+            k += 1;
         }
+        r.count = k;
         r
     }
 

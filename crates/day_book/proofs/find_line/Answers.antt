@@ -1,6 +1,7 @@
 -- The answer to a `find` line. Assumes nothing.
 use mathlib.Core.Path.{refl, ap, ◌∙◌}
 use borrow.Author.Rules.{rules}
+use Prim.Native.Nat.{◌≤◌}
 use Rattle.index_table.specs.Refusals.{number_of}
 use Rattle.index_table.proofs.RefusalLaws.{refusal_not_0}
 use Rattle.table_find.specs.Answers.{plain, with_record}
@@ -9,7 +10,9 @@ use Rattle.day_book.proofs.Showing.{shown_at, find_small, find_refused}
 use Rattle.day_book.proofs.find_line.Goals as goal
 
 pub write_answer-requires : goal.write_answer-requires
-write_answer-requires c = record { few = search rules; numbers = (find_small c.in-Ok.ensures, tt); room = search rules }
+write_answer-requires c =
+    let small : c.in-Ok.«record».0 ≤ 65535 = find_small c.in-Ok.ensures in
+    record { few = search rules; numbers = search rules; room = search rules }
 
 pub returns-in-Ok : goal.returns-in-Ok
 returns-in-Ok c =

@@ -12,5 +12,5 @@ invariant-loop-i l =
     × Within (layout_of l.e) l.index l.page.0
     × (l.to ≤ length (pages_at (layout_of l.e) l.index l.page.0))
     × (length (pages_at (layout_of l.e) l.index l.page.0) ≤ l.e)
-    × (l.initial.r.count + (l.to - l.from) ≤ 319)
-    × Appended l.from l.i l.initial.r.count l.r.count (take l.initial.r.count (places l.initial.r)) (pages_at (layout_of l.e) l.index l.page.0) l.r.depths l.r.pointers
+    × (l.initial.k + (l.to - l.from) ≤ 319)
+    × Appended l.from l.i l.initial.k l.k (take l.initial.k (places l.initial.r)) (pages_at (layout_of l.e) l.index l.page.0) l.r.depths l.r.pointers

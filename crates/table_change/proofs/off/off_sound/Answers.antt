@@ -1,5 +1,4 @@
 -- Rows 2 and 6, or off. Assumes nothing.
-use borrow.Author.Tests.{not-true, not-false}
 use native.Mathlib.Omega.{arith}
 use Rattle.index_table.proofs.SoundTables.{header_long}
 use Rattle.table_change.proofs.RowChoice.{wide_is, off_refused, off_accepted, off_wide}

@@ -1,5 +1,4 @@
 -- Row 1, or off in sound tables. Assumes nothing.
-use borrow.Author.Tests.{not-true, not-false}
 use Rattle.tag_index.proofs.Changes.{off_unsound, off_sound}
 use Rattle.tag_index.proofs.change.off.Goals as goal
 

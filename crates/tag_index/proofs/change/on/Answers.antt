@@ -1,5 +1,4 @@
 -- Row 1, or on in sound tables. Assumes nothing.
-use borrow.Author.Tests.{not-true, not-false}
 use Rattle.tag_index.proofs.Changes.{on_unsound, on_sound}
 use Rattle.tag_index.proofs.change.on.Goals as goal
 

@@ -1,5 +1,4 @@
 -- Rows 1 and 2, the lower end before the upper. Assumes nothing.
-use borrow.Author.Tests.{not-true, not-false}
 use mathlib.Core.Path.{◌∙◌}
 use native.Mathlib.Omega.{arith}
 use Rattle.index_table.proofs.SoundTables.{header_long}
