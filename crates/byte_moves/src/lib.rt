@@ -1,6 +1,7 @@
 // Bytes moved within the index table, up to 32 at once: all of them are read before one is written, so that places may overlap.
 // Tried, and slower: `copy_within`, compiled from a loop over single bytes. It takes 1.5 to 3 times the instructions for up to 180 bytes, and up to
-// twice the time for up to 60. So is a `for` over the parts, which the compiler unrolls: 4 instructions more at an on, 17 at an off.
+// twice the time for up to 60. So is a `for` over the parts, which the compiler unrolls: of more than 32 bytes 4 instructions more to move them up, and
+// some 20 to move them down.
 #![tactic(auto)]
 
 ghost use Rattle.std.specs.Prelude.{◌≡◌, ◌+◌, ◌≤◌, length, take, drop};
