@@ -1,7 +1,7 @@
 -- A chunk in pieces: what is told to the library of all of them. Assumes nothing.
 use mathlib.Core.Path.{◌≡◌, refl, sym, ◌∙◌}
 use mathlib.Core.List.{List, [], ◌++◌, append-nil}
-use Prim.Native.Nat.{ℕ, suc, ◌+◌, ◌≤◌}
+use Prim.Native.Nat.{ℕ, suc, ◌+◌, ◌-◌, ◌≤◌, ◌<◌}
 use native.Mathlib.Omega.{arith}
 use lib.ListN.{length, length-append, drop_of_length-le}
 use Rattle.tag_index.specs.Tables.{Tables}
@@ -15,8 +15,9 @@ use Rattle.day_book.proofs.ToldLines.{told_both}
 use Rattle.book_chunks.specs.Chunks.{begun, unread, Ready, ChunkDoes}
 use Rattle.book_chunks.proofs.EveryInput.{written}
 use Rattle.book_output.specs.declared.Reading.{Reading}
-use Rattle.std.specs.Prelude.{Ok}
-use Rattle.book_output.specs.Readings.{at_front, PiecesReady, begun_line, PiecesDo}
+use Rattle.std.specs.Prelude.{Some, None, Result, Ok, Err}
+use Rattle.std.specs.Result.{result_map_both}
+use Rattle.book_output.specs.Readings.{at_front, PiecesReady, begun_line, PiecesDo, EndTells, ReadDoes}
 
 -- From the front of the chunk to a place of it.
 pub record Through (t : Tables) (chunk held : List ℕ) (a : Progress) (u : Tables) (held₁ out₁ : List ℕ) (p : Progress) : Type 0 where
@@ -60,6 +61,18 @@ through_piece s does =
       empty = refl;
     }
 
+-- A piece takes something of the chunk: behind it less is left to read than before it.
+pub piece_onward : {t u v : Tables} {chunk held held₁ held₂ out₁ out₂ : List ℕ} {a p r : Progress} → Through t chunk held a u held₁ out₁ p
+    → ChunkDoes u chunk held₁ out₁ p v held₂ out₂ r → p.at < length chunk → length chunk - r.at < length chunk - p.at
+piece_onward s does some =
+    let onward = does.onward some (omega (arith, s.empty, s.buffer)) in
+    omega (arith, onward)
+
+-- A failed write: behind a piece, with any error, what the pieces of a chunk promise holds. The slices that were lent keep their lengths.
+pub pieces_fail : {E : Type 0} {t u v : Tables} {chunk held held₁ held₂ out₁ out₂ : List ℕ} {a : Reading} {p r : Progress}
+    → Through t chunk held (at_front a) u held₁ out₁ p → ChunkDoes u chunk held₁ out₁ p v held₂ out₂ r → (e : E) → PiecesDo t chunk held a v held₂ out₂ (Err e)
+pieces_fail s does e = record { lent = does.passed.ready.lent; buffer = omega (arith, s.buffer, does.passed.answered.long); all = tt }
+
 met_none : (line : List ℕ) → (lines_met line [] ≡ []) × (left_open line [] ≡ line)
 unfolding lines_met left_open
 met_none line = (refl, refl)
@@ -84,3 +97,24 @@ pieces_end {chunk = chunk} {held = held} {held₁ = held₁} {a = a} {p = p} s o
         },
       );
     }
+
+-- ---- what a read gave
+
+-- Nothing at the end of the input: where the line begun was told to the library, what a read promises holds with None, and with any error of the write.
+pub read_ends : {E : Type 0} {t u : Tables} {chunk held out₁ : List ℕ} {a : Reading} → length chunk ≡ 0 → EndTells t held a u → length held ≡ 81 → 256 ≤ length out₁
+    → ReadDoes {E = E} t chunk held a u held out₁ (Ok None) × ((e : E) → ReadDoes t chunk held a u held out₁ (Err e))
+read_ends none told lent buffer = (
+  record { lent = lent; buffer = buffer; tells = λ h. told; goes_on = none },
+  λ e. record { lent = lent; buffer = buffer; tells = λ h. told; goes_on = tt },
+)
+
+-- Where the read gave something, what the pieces did of the chunk is what the read did: their reading is handed on in `Some`, and their error stays.
+pub read_chunk : {E : Type 0} {t u : Tables} {chunk held held₁ out₁ : List ℕ} {a : Reading} {r : Result Reading E} → (length chunk ≡ 0 → ⊥)
+    → PiecesDo t chunk held a u held₁ out₁ r → ReadDoes t chunk held a u held₁ out₁ (result_map_both Some (λ e. e) r)
+read_chunk {r = Ok b} some does = record {
+  lent = does.lent;
+  buffer = does.buffer;
+  tells = λ h. absurd (some h);
+  goes_on = (omega (arith, some), does.all.0, does.all.1);
+}
+read_chunk {r = Err e} some does = record { lent = does.lent; buffer = does.buffer; tells = λ h. absurd (some h); goes_on = tt }
