@@ -1,7 +1,7 @@
 // The day book: each line of standard input is answered on standard output.
 #![tactic(auto)]
 
-ghost use Rattle.std.specs.Prelude.{IfOk, IfSome};
+ghost use Rattle.std.specs.Prelude.{◌≡◌, ◌×◌, ◌≤◌, IfOk, IfSome, length};
 ghost use Rattle.book_output.specs.Readings.{Between};
 
 use book_output::Reading;
@@ -45,6 +45,7 @@ fn answer_all<R: Read, W: Write>(
     output: &mut W,
 ) -> io::Result<()>
     requires { Between held.old out.old reading }
+    ensures { (length held.new ≡ 81) × (256 ≤ length out.new) }
 {
     for _ in 0..u64::MAX {
         match answer_some(index, keys, used, held, out, reading, input, output)? {
