@@ -1,7 +1,7 @@
 // The day book: each line of standard input is answered on standard output.
 #![tactic(auto)]
 
-ghost use Rattle.std.specs.Prelude.{◌≡◌, ◌×◌, ◌≤◌, IfOk, IfSome, length};
+ghost use Rattle.std.specs.Prelude.{◌≡◌, ◌≤◌, IfOk, IfSome, length};
 ghost use Rattle.book_output.specs.Readings.{Between};
 
 use book_output::Reading;
