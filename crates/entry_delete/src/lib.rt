@@ -9,6 +9,7 @@ ghost use Rattle.page_tree.specs.OffPages.{step_entry, strike as strikeEntry};
 ghost use Rattle.index_table.specs.Pages.{leaf_of};
 ghost use Rattle.entry_delete.specs.Entries.{Turned};
 
+use index_table::layout::{Answer, answer_of};
 use page_tree::{Entry, Unwind};
 
 // What is left of an entry, if it stays; and what is asked of the entry before.
@@ -49,7 +50,9 @@ pub fn step(state: Unwind, entry: Entry) -> Remnant
             left: Some(Entry { depth, ..entry }),
             state: Unwind::Clear(depth),
         },
-        Unwind::Clear(g) if entry.pointer == 65535 && g < entry.depth => Remnant::gone(state),
+        Unwind::Clear(g) if answer_of(entry.pointer) == Answer::Dummy && g < entry.depth => {
+            Remnant::gone(state)
+        }
         _ => Remnant::stays(entry),
     }
 }

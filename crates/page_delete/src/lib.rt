@@ -8,7 +8,7 @@ ghost use Rattle.index_table.specs.Pages.{pages_at};
 ghost use Rattle.entry_delete.specs.Entries.{Calm};
 ghost use Rattle.page_delete.specs.OnePage.{asked_before, Staying, NearPre, FollowedPre, GivePre, NearPost, StrikePost, DummyPost};
 
-use index_table::layout::{PageNo, count, depth, pointer};
+use index_table::layout::{Answer, PageNo, count, depth, pointer, record};
 use page_change::close::{close, replace_entry};
 
 // How many of the first n entries of a page stay, where dummies deeper than `than` go from the right.
@@ -17,7 +17,10 @@ fn staying(index: &[u8], e: u8, page: PageNo, n: usize, than: u8) -> usize
     ensures { Staying (pages_at (layout_of e) index.now page.0) n than result }
 {
     for i in (0..n).rev() {
-        if pointer(index, e, page, i) != 65535 || depth(index, e, page, i) <= than {
+        if let Answer::Live(_) = record(index, e, page, i) {
+            return i + 1;
+        }
+        if depth(index, e, page, i) <= than {
             return i + 1;
         }
     }
