@@ -3,13 +3,15 @@ use mathlib.Core.Path.{◌≡◌, refl, sym, ap, ◌∙◌}
 use mathlib.Core.List.{List, [], ◌∷◌, ◌++◌, map, append_assoc}
 use Prim.Native.Nat.{ℕ, suc, ◌+◌, ◌-◌, ◌≤◌, ◌<◌}
 use native.Mathlib.Omega.{arith}
-use lib.ListN.{length, get_or, take, length-append, length-map}
-use lib.Seq.{slice, length-slice, take-length}
+use native.Mathlib.Numerals.{add-one}
+use lib.ListN.{length, get_or, set, take, length-map, length-set}
+use lib.Seq.{slice, take-suc-set, length-slice, length-take-le, get_or-take, take-length}
 use Rattle.page_tree.specs.declared.Row.{Row}
 use Rattle.page_tree.specs.declared.Cut.{Cut}
+use Rattle.page_tree.specs.declared.Cuts.{Cuts}
 use Rattle.page_tree.specs.Rows.{All, concat, itself, last_depth, LastBelow}
 use Rattle.page_tree.specs.Cutting.{split, parts}
-use Rattle.page_tree.specs.Row.{Pair, depth_of, places, row_of, part_of, ends_of, SplitPost, CutPre, CutPost, CutsPost}
+use Rattle.page_tree.specs.Row.{Pair, depth_of, places, row_of, part_of, ends_of, ends_in, SplitPost, CutPre, CutPost, CutsPost}
 use Rattle.leaf_list.proofs.Lists.{all_at, all_weaker}
 use Rattle.page_tree.proofs.ListLaws.{all_unit}
 use Rattle.page_tree.proofs.RowMaps.{closed_map, parts_map}
@@ -21,27 +23,30 @@ use Rattle.page_tree.proofs.PartEnds.{slice_left, slice_right, start_of, length_
 use Rattle.page_tree.proofs.RowLaws.{Full, length_zip, depths_zip, place_at, length_row, part_of_row, last_slice}
 
 -- A part is cut at m, inside it, and both its parts can be cut again, one behind the other.
-pub record Inside (e : ℕ) (ds : List ℕ) (from to m : ℕ) (before : List ℕ) : Type 0 where
+pub record Inside (e : ℕ) (ds : List ℕ) (from to m : ℕ) (before : Cuts) : Type 0 where
   pub after : from < m
   pub ahead : m < to
   pub left_part : CutPre e ds from m before
-  pub right_part : (left : List ℕ) → CutPost e ds from m before left → CutPre e ds m to left
+  pub right_part : (left : Cuts) → CutPost e ds from m before left → CutPre e ds m to left
 
-module _ {e from to : ℕ} {before : List ℕ} (ds : List ℕ) (full : length ds ≡ 319) (pre : CutPre e ds from to before) where
+module _ {e from to : ℕ} {before : Cuts} (ds : List ℕ) (full : length ds ≡ 319) (pre : CutPre e ds from to before) where
   -- The part is inside the row.
   fits : to ≤ length ds
   fits = omega (arith, pre.within)
 
-  -- One part: its end is put behind.
-  pub cut_one : to - from ≤ e → (after : List ℕ) → after ≡ before ++ to ∷ [] → CutPost e ds from to before after
-  cut_one h after is =
+  -- One part: its end is stored.
+  pub cut_one : length before.ends ≡ 65 → to - from ≤ e
+      → CutPost e ds from to before (record { ends = set before.ends before.count to; count = before.count + 1 })
+  cut_one l h =
       let n = length-slice from to ds fits in
       let end : from + length (slice from to ds) ≡ to = omega (arith, pre.some) in
-      let more : length after ≡ length before + 1 = ap length is ∙ length-append before (to ∷ []) in
       record {
-        ends = rw (cut_fits itself e (length (slice from to ds)) (slice from to ds) (omega arith), end) is;
+        ends =
+            rw (add-one before.count, cut_fits itself e (length (slice from to ds)) (slice from to ds) (omega arith), end)
+            (take-suc-set before.ends before.count to (omega (arith, pre.room)));
         some = omega arith;
         few = omega arith;
+        places = length-set before.ends before.count to;
       }
 
   -- The part, and the two in which 01 cuts it.
@@ -104,15 +109,20 @@ module _ {e from to : ℕ} {before : List ℕ} (ds : List ℕ) (full : length ds
     }
 
     -- What they leave.
-    pub cut_both : (left after : List ℕ) → CutPost e ds from m before left → CutPost e ds m to left after → CutPost e ds from to before after
+    pub cut_both : (left after : Cuts) → CutPost e ds from m before left → CutPost e ds m to left after → CutPost e ds from to before after
     cut_both left after h g = record {
       ends =
           g.ends ∙ ap (λ l. l ++ ends_of m (parts itself e (slice m to ds))) h.ends
-          ∙ append_assoc before (ends_of from (parts itself e (slice from m ds))) (ends_of m (parts itself e (slice m to ds)))
-          ∙ ap (λ l. before ++ l) (sym halves.2);
+          ∙ append_assoc (ends_in before) (ends_of from (parts itself e (slice from m ds))) (ends_of m (parts itself e (slice m to ds)))
+          ∙ ap (λ l. ends_in before ++ l) (sym halves.2);
       some = omega (arith, h.some, g.some);
       few = omega (arith, pre.size, h.few, g.few, halves.0, halves.1);
+      places = g.places ∙ h.places;
     }
+
+-- An end that is in use.
+end_read : (cuts : Cuts) (es : List ℕ) (k : ℕ) → ends_in cuts ≡ es → k < cuts.count → get_or cuts.ends k 0 ≡ get_or es k 0
+end_read cuts es k h l = sym (get_or-take cuts.count cuts.ends k 0 l) ∙ ap (λ r. get_or r k 0) h
 
 -- Parts of other things are as long.
 ends_map : {A B : Type 0} (f : A → B) (from : ℕ) (xss : List (List A)) → ends_of from (map (map f) xss) ≡ ends_of from xss
@@ -128,13 +138,13 @@ module _ (e : ℕ) (row : Row) (full : Full row.depths row.pointers) where
   own_depths = all_weaker (λ x. Unit {0}) (λ x. depth_of x ≡ depth_of x) (row_of row) (λ x u. refl) (all_unit (row_of row))
 
   -- The row can be cut, by its depths.
-  pub cut_start : {none : List ℕ} → 2 ≤ e → e ≤ 255 → 1 ≤ row.count → row.count ≤ e + 64 → LastBelow depth_of (row_of row) → none ≡ []
+  pub cut_start : {none : Cuts} → 2 ≤ e → e ≤ 255 → 1 ≤ row.count → row.count ≤ e + 64 → LastBelow depth_of (row_of row) → none.count ≡ 0
       → CutPre e row.depths 0 row.count none
   cut_start low byte some most closed no_end = record {
     some = some;
     within = omega arith;
     size = omega arith;
-    room = omega (arith, ap length no_end);
+    room = omega arith;
     closed =
         rw (← row_depths)
         (closed_below itself (last_depth depth_of 0 (row_of row)) (map depth_of (row_of row))
@@ -148,19 +158,21 @@ module _ (e : ℕ) (row : Row) (full : Full row.depths row.pointers) where
       ∙ ends_map depth_of 0 (parts depth_of e (row_of row))
 
 -- The whole row, with no end before.
-pub cut_all : {e : ℕ} {row : Row} {none after : List ℕ} → Full row.depths row.pointers → row.count ≤ 319 → row.count ≤ e + 64
-    → none ≡ [] → CutPost e row.depths 0 row.count none after → CutsPost e row after
-cut_all {e} {row} {none} {after} full small most no_end h =
+pub cut_all : {e : ℕ} {row : Row} {none after : Cuts} → Full row.depths row.pointers → row.count ≤ 319 → row.count ≤ e + 64
+    → length after.ends ≡ 65 → none.count ≡ 0 → CutPost e row.depths 0 row.count none after → CutsPost e row after
+cut_all {e} {row} {none} {after} full small most l no_end h =
     let ps = parts depth_of e (row_of row) in
-    let ends : after ≡ ends_of 0 ps =
-    h.ends ∙ ap (λ (l : List ℕ). l ++ ends_of 0 (parts itself e (take row.count row.depths))) no_end ∙ same_ends e row full in
+    let ends : ends_in after ≡ ends_of 0 ps =
+    h.ends ∙ ap (λ (n : ℕ). take n none.ends ++ ends_of 0 (parts itself e (take row.count row.depths))) no_end ∙ same_ends e row full in
+    let few : after.count ≤ 65 = omega (arith, h.few) in
+    let count : after.count ≡ length ps = sym (length-take-le after.count after.ends (omega arith)) ∙ ap length ends ∙ length_ends 0 ps in
     let whole : length (concat ps) ≡ row.count = ap length (cut_join depth_of e (length (row_of row)) (row_of row)) ∙ length_row row full small in
     record {
       ends = ends;
-      count = ap length ends ∙ length_ends 0 ps;
+      count = count;
       some = omega (arith, h.some);
-      few = omega (arith, h.few, ap length no_end);
-      within = λ k b. omega (arith, ap (λ (l : List ℕ). get_or l k 0) ends, end_within 0 ps k (omega (arith, ap length ends, length_ends 0 ps)));
+      few = few;
+      within = λ k b. omega (arith, end_read after (ends_of 0 ps) k ends b, end_within 0 ps k (omega arith));
     }
 
 -- Part k of the parts ps of a row stands from one place up to another.
@@ -172,13 +184,13 @@ pub record Part (e : ℕ) (row : Row) (ps : List (List Pair)) (k from to : ℕ) 
   pub within : to ≤ row.count
 
 -- What stands between an end and the one before is the part, with 1 to e entries.
-pub cuts_part : {e : ℕ} {row : Row} {cuts : List ℕ} → 1 ≤ e → 1 ≤ length (row_of row) → CutsPost e row cuts → (k : ℕ) → k < length cuts
-    → (from : ℕ) → from ≡ start_of (parts depth_of e (row_of row)) k → Part e row (parts depth_of e (row_of row)) k from (get_or cuts k 0)
+pub cuts_part : {e : ℕ} {row : Row} {cuts : Cuts} → 1 ≤ e → 1 ≤ length (row_of row) → CutsPost e row cuts → (k : ℕ) → k < cuts.count
+    → (from : ℕ) → from ≡ start_of (parts depth_of e (row_of row)) k → Part e row (parts depth_of e (row_of row)) k from (get_or cuts.ends k 0)
 cuts_part {e} {row} {cuts} one some h k l from f =
     let ps = parts depth_of e (row_of row) in
-    let to = get_or cuts k 0 in
+    let to = get_or cuts.ends k 0 in
     let b : k < length ps = omega (arith, h.count) in
-    let end : to ≡ start_of ps (suc k) = ap (λ (c : List ℕ). get_or c k 0) h.ends ∙ end_at 0 ps k b ∙ omega arith in
+    let end : to ≡ start_of ps (suc k) = end_read cuts (ends_of 0 ps) k h.ends l ∙ end_at 0 ps k b ∙ omega arith in
     let sized = all_at (λ xs. (1 ≤ length xs) × (length xs ≤ e)) ps k [] b (parts_sizes depth_of e one (row_of row) some) in
     let step = start_next ps k b in
     record {
@@ -193,8 +205,8 @@ cuts_part {e} {row} {cuts} one some h k l from f =
     }
 
 -- Behind the last part the row ends.
-pub cuts_end : {e : ℕ} {row : Row} {cuts : List ℕ} → Full row.depths row.pointers → row.count ≤ 319 → CutsPost e row cuts
-    → start_of (parts depth_of e (row_of row)) (length cuts) ≡ row.count
+pub cuts_end : {e : ℕ} {row : Row} {cuts : Cuts} → Full row.depths row.pointers → row.count ≤ 319 → CutsPost e row cuts
+    → start_of (parts depth_of e (row_of row)) cuts.count ≡ row.count
 cuts_end {e} {row} {cuts} full small h =
     let ps = parts depth_of e (row_of row) in
     ap (λ (k : ℕ). start_of ps k) h.count ∙ ap (λ xss. length (concat xss)) (take-length ps)

@@ -5,6 +5,7 @@ use mathlib.Core.List.{List, [], ◌∷◌, ◌++◌, zip}
 use Rattle.std.proofs.Math.Seq.{slice}
 use Rattle.page_tree.specs.declared.Row.{Row}
 use Rattle.page_tree.specs.declared.Cut.{Cut}
+use Rattle.page_tree.specs.declared.Cuts.{Cuts}
 use Rattle.page_tree.specs.Rows.{itself, last_depth, LastBelow}
 use Rattle.page_tree.specs.Cutting.{parts}
 use Rattle.page_tree.specs.QuickCut.{tried, quick_place}
@@ -38,29 +39,34 @@ abbrev pub ends_of : {A : Type 0} → ℕ → List (List A) → List ℕ
 ends_of from [] = []
 ends_of from (xs ∷ xss) = (from + length xs) ∷ ends_of (from + length xs) xss
 
+-- The ends in use.
+abbrev pub ends_in : Cuts → List ℕ
+ends_in c = take c.count c.ends
+
 -- What the search gives, of every row: where a part of a row of depths is cut, and how many of its entries were tried.
 pub record SplitPost (depths : List ℕ) (from to : ℕ) (cut : Cut) : Type 0 where
   pub place : cut.at ≡ from + quick_place itself (slice from to depths)
   pub count : cut.tried ≡ tried itself (last_depth itself 0 (slice from to depths)) (slice from to depths)
 
 -- A part of a row of depths whose last is below all others is to be cut, with room for the ends of as many parts as there can be.
-pub record CutPre (e : ℕ) (depths : List ℕ) (from to : ℕ) (before : List ℕ) : Type 0 where
+pub record CutPre (e : ℕ) (depths : List ℕ) (from to : ℕ) (before : Cuts) : Type 0 where
   pub some : from < to
   pub within : to ≤ 319
   pub size : 1 ≤ e
-  pub room : length before + suc ((to - from) - e) ≤ 65
+  pub room : before.count + suc ((to - from) - e) ≤ 65
   pub closed : LastBelow itself (slice from to depths)
 
 -- The ends of the parts of a part stand behind the ends before.
-pub record CutPost (e : ℕ) (depths : List ℕ) (from to : ℕ) (before after : List ℕ) : Type 0 where
-  pub ends : after ≡ before ++ ends_of from (parts itself e (slice from to depths))
-  pub some : length before < length after
-  pub few : length after ≤ length before + suc ((to - from) - e)
+pub record CutPost (e : ℕ) (depths : List ℕ) (from to : ℕ) (before after : Cuts) : Type 0 where
+  pub ends : ends_in after ≡ ends_in before ++ ends_of from (parts itself e (slice from to depths))
+  pub some : before.count < after.count
+  pub few : after.count ≤ before.count + suc ((to - from) - e)
+  pub places : length after.ends ≡ length before.ends
 
 -- The ends of the parts of a row, at most 65, none past the row.
-pub record CutsPost (e : ℕ) (row : Row) (cuts : List ℕ) : Type 0 where
-  pub ends : cuts ≡ ends_of 0 (parts depth_of e (row_of row))
-  pub count : length cuts ≡ length (parts depth_of e (row_of row))
-  pub some : 1 ≤ length cuts
-  pub few : length cuts ≤ 65
-  pub within : (k : ℕ) → k < length cuts → get_or cuts k 0 ≤ row.count
+pub record CutsPost (e : ℕ) (row : Row) (cuts : Cuts) : Type 0 where
+  pub ends : ends_in cuts ≡ ends_of 0 (parts depth_of e (row_of row))
+  pub count : cuts.count ≡ length (parts depth_of e (row_of row))
+  pub some : 1 ≤ cuts.count
+  pub few : cuts.count ≤ 65
+  pub within : (k : ℕ) → k < cuts.count → get_or cuts.ends k 0 ≤ row.count

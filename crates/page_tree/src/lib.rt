@@ -5,8 +5,6 @@ ghost use Rattle.std.specs.Prelude.{◌≡◌, [], ◌∷◌, ◌++◌, ◌+◌,
 ghost use Rattle.page_tree.specs.Rows.{LastBelow};
 ghost use Rattle.page_tree.specs.Row.{depth_of, row_of, part_of, Holds, SplitPost, CutPre, CutPost, CutsPost};
 
-use arrayvec::ArrayVec;
-
 // What deletion asks of the entry before, on its way back to the left: nothing; to take a depth;
 // to go where it is a dummy deeper than a depth.
 #[derive(Clone, Copy, Debug, PartialEq, Eq)]
@@ -32,8 +30,13 @@ pub struct Row {
     pub count: usize,
 }
 
-// Where a row is cut: past the last entry of each part, in order.
-pub type Cuts = ArrayVec<usize, 65>;
+// Where a row is cut: past the last entry of each part, in order; the first count places are in use. It is a struct, which is copied as a row is, where an
+// `ArrayVec` is not.
+#[derive(Clone, Copy)]
+pub struct Cuts {
+    pub ends: [usize; 65],
+    pub count: usize,
+}
 
 impl Row {
     // No entry.
@@ -106,9 +109,12 @@ impl Row {
     // The ends of the parts in which the row, whose last depth is below all others, stands in pages of at most e entries.
     pub fn cuts(self, e: u8) -> Cuts
         requires { (2 ≤ e) × (1 ≤ self.count) × (self.count ≤ e + 64) × LastBelow depth_of (row_of self) }
-        ensures { CutsPost e self result.items }
+        ensures { CutsPost e self result }
     {
-        let mut cuts = Cuts::new();
+        let mut cuts = Cuts {
+            ends: [0; 65],
+            count: 0,
+        };
         cut_part(self, e, 0, self.count, &mut cuts);
         cuts
     }
@@ -158,11 +164,12 @@ pub fn split_at(row: Row, from: usize, to: usize) -> Cut
 
 // Puts the ends of the parts of the entries from one place up to another behind the ends before.
 fn cut_part(row: Row, e: u8, from: usize, to: usize, cuts: &mut Cuts)
-    requires { CutPre e row.depths from to cuts.old.items }
-    ensures { CutPost e row.depths from to cuts.old.items cuts.new.items }
+    requires { CutPre e row.depths from to cuts.old }
+    ensures { CutPost e row.depths from to cuts.old cuts.new }
 {
     if to - from <= usize::from(e) {
-        cuts.push(to);
+        cuts.ends[cuts.count] = to;
+        cuts.count += 1;
         return;
     }
     let m = split_at(row, from, to).at;

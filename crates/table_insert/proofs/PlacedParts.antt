@@ -11,6 +11,7 @@ use Rattle.page_tree.specs.Rows.{All, last_depth}
 use Rattle.page_tree.specs.Cutting.{parts}
 use Rattle.page_tree.specs.Row.{depth_of, places, row_of, part_of, CutsPost}
 use Rattle.page_tree.specs.declared.Row.{Row}
+use Rattle.page_tree.specs.declared.Cuts.{Cuts}
 use Rattle.page_tree.proofs.CuttingLaws.{cut_all}
 use Rattle.page_tree.proofs.PartEnds.{start_of}
 use Rattle.page_tree.proofs.RowLaws.{Full, full_set, length_zip, length_row, stored_behind, slice_more}
@@ -36,24 +37,24 @@ pub record Storing (e P n : ℕ) (row : Row) (first : List Ref) (b₁ b : List �
 pub first_entry : (ds ptrs : List ℕ) → Full ds ptrs → (d pointer p : ℕ) → pointer ≡ p → take 1 (zip (set ds 0 d) (set ptrs 0 pointer)) ≡ (d, p) ∷ []
 first_entry ds ptrs f d pointer p h = stored_behind ds ptrs f 0 d pointer (omega arith) ∙ ap (λ (z : ℕ). (d, z) ∷ []) h
 
-module _ {e P : ℕ} {b : List ℕ} {own : ℕ} {row : Row} {cuts : List ℕ} (pre : PlacePre e P b own row) (full : Full row.depths row.pointers) (post : CutsPost e row cuts) (byte : e ≤ 255) where
+module _ {e P : ℕ} {b : List ℕ} {own : ℕ} {row : Row} {cuts : Cuts} (pre : PlacePre e P b own row) (full : Full row.depths row.pointers) (post : CutsPost e row cuts) (byte : e ≤ 255) where
   abbrev ps : List (List Ref)
   ps = parts depth_of e (row_of row)
 
   abbrev end : ℕ → ℕ
-  end k = get_or cuts k 0
+  end k = get_or cuts.ends k 0
 
   long : length (row_of row) ≡ row.count
   long = length_row row full (omega (arith, pre.small))
 
-  part : (k : ℕ) → k < length cuts → (from : ℕ) → from ≡ start_of ps k → Part e row ps k from (end k)
+  part : (k : ℕ) → k < cuts.count → (from : ℕ) → from ≡ start_of ps k → Part e row ps k from (end k)
   part k h from f = cuts_part (omega (arith, pre.entries_low)) (omega (arith, long, pre.some)) post k h from f
 
-  fits : (k : ℕ) → k < length cuts → (from : ℕ) → Part e row ps k from (end k) → Fitting 2 (part_of row from (end k))
+  fits : (k : ℕ) → k < cuts.count → (from : ℕ) → Part e row ps k from (end k) → Fitting 2 (part_of row from (end k))
   fits k h from p =
       rw p.entries (all_at (All (λ (x : Ref). x.1 < 65536)) ps k [] (omega (arith, post.count)) (cut_all depth_of e (λ (x : Ref). x.1 < 65536) (length (row_of row)) (row_of row) pre.fitting))
 
-  part_long : (k : ℕ) → k < length cuts → (from : ℕ) → Part e row ps k from (end k) → length (part_of row from (end k)) ≡ end k - from
+  part_long : (k : ℕ) → k < cuts.count → (from : ℕ) → Part e row ps k from (end k) → length (part_of row from (end k)) ≡ end k - from
   part_long k h from p = length-slice from (end k) (places row) (omega (arith, p.within, pre.small, length_zip row.depths row.pointers full))
 
   first_part : Part e row ps 0 0 (end 0)
@@ -102,7 +103,7 @@ module _ {e P : ℕ} {b : List ℕ} {own : ℕ} {row : Row} {cuts : List ℕ} (p
         rw stored (one_total e P n b own (part_of row 0 (end 0)) (omega (arith, p.few)) (omega (arith, p.some)) (fits 0 (omega (arith, post.some)) 0 p) pre.table pre.number)
 
     module _ {first : List Ref} {bk : List ℕ} {from : ℕ} {ds ptrs : List ℕ} {k : ℕ} (h : Storing e P n row first b₁ bk from ds ptrs k) where
-      module _ (l : k < length cuts) where
+      module _ (l : k < cuts.count) where
         next_part : Part e row ps k from (end k)
         next_part = part k l from h.begins
 
@@ -149,7 +150,7 @@ module _ {e P : ℕ} {b : List ℕ} {own : ℕ} {row : Row} {cuts : List ℕ} (p
         storing_more {b'} {p} g d hd pointer hp = subst (λ (z : ℕ). Storing e P n row first b₁ b' (end k) (set ds k d) (set ptrs k z) (k + 1)) (sym hp) (stored_more g d hd)
 
       -- All parts are stored.
-      pub storing_end : (d₀ : ℕ) → first ≡ (d₀, own) ∷ [] → d₀ ≡ get_or row.depths (end 0 - 1) 0 → k ≡ length cuts → PlacePost e P n b own row bk (record { depths = ds; pointers = ptrs; count = length cuts })
+      pub storing_end : (d₀ : ℕ) → first ≡ (d₀, own) ∷ [] → d₀ ≡ get_or row.depths (end 0 - 1) 0 → k ≡ cuts.count → PlacePost e P n b own row bk (record { depths = ds; pointers = ptrs; count = cuts.count })
       storing_end d₀ hf hd g =
           let p = first_part in
           let m = part_long 0 (omega (arith, post.some)) 0 p in

@@ -40,20 +40,19 @@ pub fn place_parts(index: &mut [u8], e: u8, pages: u16, level: u8, own: PageNo, 
     ensures { PlacePost e pages level index.old own.0 row index.new result }
 {
     let cuts = row.cuts(e);
-    let ends = cuts.as_slice();
-    let mut from = ends[0];
+    let mut from = cuts.ends[0];
     store_page(index, e, own, level, row, 0, from);
     let mut r = Row::new();
     r.depths[0] = row.depths[from - 1];
     r.pointers[0] = u32::from(own);
-    for k in 1..ends.len() {
-        let to = ends[k];
+    for k in 1..cuts.count {
+        let to = cuts.ends[k];
         let page = place_part(index, e, pages, level, row, from, to);
         r.depths[k] = row.depths[to - 1];
         r.pointers[k] = u32::from(page);
         from = to;
     }
-    r.count = ends.len();
+    r.count = cuts.count;
     r
 }
 

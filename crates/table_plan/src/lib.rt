@@ -36,7 +36,7 @@ fn last_depths(row: Row, e: u8) -> Row
 {
     let cuts = row.cuts(e);
     let mut r = Row::new();
-    for &to in cuts.as_slice() {
+    for &to in &cuts.ends[..cuts.count] {
         let k = r.count;
         r.depths[k] = row.depths[to - 1];
         r.pointers[k] = 0;

@@ -4,7 +4,7 @@ use Rattle.page_tree.proofs.RowCuts.{cut_one, cut_inside, cut_both}
 use Rattle.page_tree.proofs.+cut_part.Goals as goal
 
 pub returns-then-to-from : goal.returns-then-to-from
-returns-then-to-from t c = cut_one _ (search rules) c.requires (omega (arith, c.from.ensures)) _ c.push.ensures.items
+returns-then-to-from t c = cut_one _ (search rules) c.requires (search rules) (omega (arith, c.from.ensures))
 
 pub cut_part-requires : goal.cut_part-requires
 cut_part-requires t c =

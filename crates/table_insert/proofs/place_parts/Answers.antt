@@ -5,50 +5,36 @@ use Rattle.table_insert.proofs.place_parts.Goals as goal
 
 pub store_page-requires : goal.store_page-requires
 store_page-requires c =
-    let post = rw (← c.as_slice-ends.ensures.value) at c.cuts-cuts.ensures in
-    first_storable c.requires (search rules, search rules) post (search rules)
-
-pub bounds-ends-0 : goal.bounds-ends-0
-bounds-ends-0 c =
-    let post = rw (← c.as_slice-ends.ensures.value) at c.cuts-cuts.ensures in
-    omega (arith, post.some)
+    first_storable c.requires (search rules, search rules) c.cuts-cuts.ensures (search rules)
 
 pub overflow_sub-r : goal.overflow_sub-r
 overflow_sub-r c =
-    let post = rw (← c.as_slice-ends.ensures.value) at c.cuts-cuts.ensures in
-    omega (arith, (first_end c.requires (search rules, search rules) post (search rules)).0)
+    omega (arith, (first_end c.requires (search rules, search rules) c.cuts-cuts.ensures (search rules)).0)
 
 pub bounds-row-from : goal.bounds-row-from
 bounds-row-from c =
-    let post = rw (← c.as_slice-ends.ensures.value) at c.cuts-cuts.ensures in
-    omega (arith, first_end c.requires (search rules, search rules) post (search rules))
+    omega (arith, first_end c.requires (search rules, search rules) c.cuts-cuts.ensures (search rules))
 
 pub loop-k-init : goal.loop-k-init
 loop-k-init c =
-    let post = rw (← c.as_slice-ends.ensures.value) at c.cuts-cuts.ensures in
-    ((search rules, search rules), storing_start c.requires (search rules, search rules) post (search rules) _ c.store_page.ensures _ _ (search rules, search rules))
+    ((search rules, search rules), storing_start c.requires (search rules, search rules) c.cuts-cuts.ensures (search rules) _ c.store_page.ensures _ _ (search rules, search rules))
 
 pub place_part-page-requires : goal.place_part-page-requires
 place_part-page-requires c =
-    let post = rw (← c.as_slice-ends.ensures.value) at c.cuts-cuts.ensures in
-    next_pre c.requires c.loop-k.invariant.0 post (search rules) _ c.store_page.ensures c.loop-k.invariant.1 (search rules)
+    next_pre c.requires c.loop-k.invariant.0 c.cuts-cuts.ensures (search rules) _ c.store_page.ensures c.loop-k.invariant.1 (search rules)
 
 pub overflow_sub-r-in-loop-k : goal.overflow_sub-r-in-loop-k
 overflow_sub-r-in-loop-k c =
-    let post = rw (← c.as_slice-ends.ensures.value) at c.cuts-cuts.ensures in
-    omega (arith, (next_end c.requires c.loop-k.invariant.0 post (search rules) _ c.store_page.ensures c.loop-k.invariant.1 (search rules)).0)
+    omega (arith, (next_end c.requires c.loop-k.invariant.0 c.cuts-cuts.ensures (search rules) _ c.store_page.ensures c.loop-k.invariant.1 (search rules)).0)
 
 pub bounds-row-to : goal.bounds-row-to
 bounds-row-to c =
-    let post = rw (← c.as_slice-ends.ensures.value) at c.cuts-cuts.ensures in
-    omega (arith, next_end c.requires c.loop-k.invariant.0 post (search rules) _ c.store_page.ensures c.loop-k.invariant.1 (search rules))
+    omega (arith, next_end c.requires c.loop-k.invariant.0 c.cuts-cuts.ensures (search rules) _ c.store_page.ensures c.loop-k.invariant.1 (search rules))
 
 pub loop-k-preserved : goal.loop-k-preserved
 loop-k-preserved c =
-    let post = rw (← c.as_slice-ends.ensures.value) at c.cuts-cuts.ensures in
-    (c.loop-k.invariant.0, storing_more c.requires c.loop-k.invariant.0 post (search rules) _ c.store_page.ensures c.loop-k.invariant.1 (search rules) c.place_part-page.ensures _ refl _ c.from-in-loop-k.ensures.0)
+    (c.loop-k.invariant.0, storing_more c.requires c.loop-k.invariant.0 c.cuts-cuts.ensures (search rules) _ c.store_page.ensures c.loop-k.invariant.1 (search rules) c.place_part-page.ensures _ refl _ c.from-in-loop-k.ensures.0)
 
 pub returns : goal.returns
 returns c =
-    let post = rw (← c.as_slice-ends.ensures.value) at c.cuts-cuts.ensures in
-    storing_end c.requires c.loop-k.invariant.0 post (search rules) _ c.store_page.ensures c.loop-k.invariant.1 _ (first_entry c.new-r.result.depths c.new-r.result.pointers (search rules, search rules) _ _ _ c.from.ensures.0) refl (omega arith)
+    storing_end c.requires c.loop-k.invariant.0 c.cuts-cuts.ensures (search rules) _ c.store_page.ensures c.loop-k.invariant.1 _ (first_entry c.new-r.result.depths c.new-r.result.pointers (search rules, search rules) _ _ _ c.from.ensures.0) refl (omega arith)

@@ -8,23 +8,19 @@ loop-to-init c = (c.new-r.ensures.count, record { full = (search rules, search r
 
 pub overflow_sub-r : goal.overflow_sub-r
 overflow_sub-r c =
-    let post = rw (← c.as_slice-to-items.ensures.value) at c.cuts-cuts.ensures in
-    (end_inside (search rules, search rules) c.requires.0 c.requires.1 (omega (arith, c.requires, c.ranges.e)) post _ c.loop-to-test.true).0
+    (end_inside (search rules, search rules) c.requires.0 c.requires.1 (omega (arith, c.requires, c.ranges.e)) c.cuts-cuts.ensures _ c.loop-to-test.true).0
 
 pub bounds-row-to : goal.bounds-row-to
 bounds-row-to c =
-    let post = rw (← c.as_slice-to-items.ensures.value) at c.cuts-cuts.ensures in
-    let inside = end_inside (search rules, search rules) c.requires.0 c.requires.1 (omega (arith, c.requires, c.ranges.e)) post _ c.loop-to-test.true in
+    let inside = end_inside (search rules, search rules) c.requires.0 c.requires.1 (omega (arith, c.requires, c.ranges.e)) c.cuts-cuts.ensures _ c.loop-to-test.true in
     omega arith
 
 pub loop-to-preserved : goal.loop-to-preserved
 loop-to-preserved c =
-    let post = rw (← c.as_slice-to-items.ensures.value) at c.cuts-cuts.ensures in
     rw c.loop-to.invariant.0
-    (refl, gathered_more (search rules, search rules) c.requires.0 c.requires.1 (omega (arith, c.requires, c.ranges.e)) post _ c.loop-to-test.true _ _ c.loop-to.invariant.1)
+    (refl, gathered_more (search rules, search rules) c.requires.0 c.requires.1 (omega (arith, c.requires, c.ranges.e)) c.cuts-cuts.ensures _ c.loop-to-test.true _ _ c.loop-to.invariant.1)
 
 pub returns : goal.returns
 returns c =
-    let post = rw (← c.as_slice-to-items.ensures.value) at c.cuts-cuts.ensures in
-    gathered_all (search rules, search rules) c.requires.0 c.requires.1 (omega (arith, c.requires, c.ranges.e)) post _ (omega arith)
+    gathered_all (search rules, search rules) c.requires.0 c.requires.1 (omega (arith, c.requires, c.ranges.e)) c.cuts-cuts.ensures _ (omega arith)
     (rw (sym c.loop-to.invariant.0) at c.loop-to.invariant.1)
