@@ -15,9 +15,10 @@ use Rattle.day_book.proofs.ToldLines.{told_both}
 use Rattle.book_chunks.specs.Chunks.{begun, unread, Ready, ChunkDoes}
 use Rattle.book_chunks.proofs.EveryInput.{written}
 use Rattle.book_output.specs.declared.Reading.{Reading}
-use Rattle.std.specs.Prelude.{Some, None, Result, Ok, Err}
+use Rattle.std.specs.Prelude.{Result, Ok, Err}
 use Rattle.std.specs.Result.{result_map_both}
-use Rattle.book_output.specs.Readings.{at_front, PiecesReady, begun_line, PiecesDo, EndTells, ReadDoes}
+use Rattle.std.specs.declared.ops.ControlFlow.TheVariants.{Continue, Break}
+use Rattle.book_output.specs.Readings.{at_front, behind, PiecesReady, begun_line, PiecesDo, EndDoes, ReadDoes}
 
 -- From the front of the chunk to a place of it.
 pub record Through (t : Tables) (chunk held : List ℕ) (a : Progress) (u : Tables) (held₁ out₁ : List ℕ) (p : Progress) : Type 0 where
@@ -68,10 +69,16 @@ piece_onward s does some =
     let onward = does.onward some (omega (arith, s.empty, s.buffer)) in
     omega (arith, onward)
 
--- A failed write: behind a piece, with any error, what the pieces of a chunk promise holds. The slices that were lent keep their lengths.
+-- A failed write, with any error: behind a piece what the pieces of a chunk promise holds, of the reading too.
 pub pieces_fail : {E : Type 0} {t u v : Tables} {chunk held held₁ held₂ out₁ out₂ : List ℕ} {a : Reading} {p r : Progress}
-    → Through t chunk held (at_front a) u held₁ out₁ p → ChunkDoes u chunk held₁ out₁ p v held₂ out₂ r → (e : E) → PiecesDo t chunk held a v held₂ out₂ (Err e)
-pieces_fail s does e = record { lent = does.passed.ready.lent; buffer = omega (arith, s.buffer, does.passed.answered.long); all = tt }
+    → Through t chunk held (at_front a) u held₁ out₁ p → ChunkDoes u chunk held₁ out₁ p v held₂ out₂ r → (e : E)
+    → PiecesDo t chunk held a v held₂ out₂ (behind r) (Err e)
+pieces_fail s does e =
+    let ready = does.passed.ready in
+    record {
+      between = record { lent = ready.lent; room = ready.room; buffer = omega (arith, s.buffer, does.passed.answered.long) };
+      all = tt;
+    }
 
 met_none : (line : List ℕ) → (lines_met line [] ≡ []) × (left_open line [] ≡ line)
 unfolding lines_met left_open
@@ -79,42 +86,33 @@ met_none line = (refl, refl)
 
 -- The end of the chunk.
 pub pieces_end : {E : Type 0} {t u : Tables} {chunk held held₁ out₁ : List ℕ} {a : Reading} {p : Progress} → Through t chunk held (at_front a) u held₁ out₁ p
-    → length chunk ≤ p.at → PiecesDo {E = E} t chunk held a u held₁ out₁ (Ok (record { lines = p.lines; held = p.held }))
+    → length chunk ≤ p.at → PiecesDo {E = E} t chunk held a u held₁ out₁ (behind p) (Ok tt)
 pieces_end {chunk = chunk} {held = held} {held₁ = held₁} {a = a} {p = p} s over =
     let none : unread chunk p ≡ [] = drop_of_length-le chunk over in
     let met : lines_met (begun_line held a) chunk ≡ s.lines = s.passes.met ∙ rw (none, (met_none (begun held₁ p)).0, append-nil) in
     record {
-      lent = s.ready.lent;
-      buffer = s.buffer;
-      all = (
-        s.ready.room,
-        record {
-          feeds = s.feeds;
-          printed = s.printed;
-          told = rw met s.told;
-          counted = rw met s.counted;
-          opens = sym (s.passes.opens ∙ rw (none, (met_none (begun held₁ p)).1));
-        },
-      );
+      between = record { lent = s.ready.lent; room = s.ready.room; buffer = s.buffer };
+      all = record {
+        feeds = s.feeds;
+        printed = s.printed;
+        told = rw met s.told;
+        counted = rw met s.counted;
+        opens = sym (s.passes.opens ∙ rw (none, (met_none (begun held₁ p)).1));
+      };
     }
 
 -- ---- what a read gave
 
--- Nothing at the end of the input: where the line begun was told to the library, what a read promises holds with None, and with any error of the write.
-pub read_ends : {E : Type 0} {t u : Tables} {chunk held out₁ : List ℕ} {a : Reading} → length chunk ≡ 0 → EndTells t held a u → length held ≡ 81 → 256 ≤ length out₁
-    → ReadDoes {E = E} t chunk held a u held out₁ (Ok None) × ((e : E) → ReadDoes t chunk held a u held out₁ (Err e))
-read_ends none told lent buffer = (
-  record { lent = lent; buffer = buffer; tells = λ h. told; goes_on = none },
-  λ e. record { lent = lent; buffer = buffer; tells = λ h. told; goes_on = tt },
+-- Nothing at the end of the input: there the day book ends, be it behind a write that failed, with any error.
+pub read_ends : {E : Type 0} {t u : Tables} {chunk held out₁ : List ℕ} {a b : Reading} → length chunk ≡ 0 → EndDoes t held a u out₁ b
+    → ReadDoes {E = E} t chunk held a u held out₁ b (Ok (Break tt)) × ((e : E) → ReadDoes t chunk held a u held out₁ b (Err e))
+read_ends none does = (
+  record { between = does.between; tells = λ h. does.tells; goes_on = none },
+  λ e. record { between = does.between; tells = λ h. does.tells; goes_on = tt },
 )
 
--- Where the read gave something, what the pieces did of the chunk is what the read did: their reading is handed on in `Some`, and their error stays.
-pub read_chunk : {E : Type 0} {t u : Tables} {chunk held held₁ out₁ : List ℕ} {a : Reading} {r : Result Reading E} → (length chunk ≡ 0 → ⊥)
-    → PiecesDo t chunk held a u held₁ out₁ r → ReadDoes t chunk held a u held₁ out₁ (result_map_both Some (λ e. e) r)
-read_chunk {r = Ok b} some does = record {
-  lent = does.lent;
-  buffer = does.buffer;
-  tells = λ h. absurd (some h);
-  goes_on = (omega (arith, some), does.all.0, does.all.1);
-}
-read_chunk {r = Err e} some does = record { lent = does.lent; buffer = does.buffer; tells = λ h. absurd (some h); goes_on = tt }
+-- Where the read gave something, what the pieces did of the chunk is what the read did, and the day book goes on, unless a write failed.
+pub read_chunk : {E : Type 0} {t u : Tables} {chunk held held₁ out₁ : List ℕ} {a b : Reading} {r : Result (Unit {0}) E} → (length chunk ≡ 0 → ⊥)
+    → PiecesDo t chunk held a u held₁ out₁ b r → ReadDoes t chunk held a u held₁ out₁ b (result_map_both Continue (λ e. e) r)
+read_chunk {r = Ok tt} some does = record { between = does.between; tells = λ h. absurd (some h); goes_on = (omega (arith, some), does.all) }
+read_chunk {r = Err e} some does = record { between = does.between; tells = λ h. absurd (some h); goes_on = tt }

@@ -1,5 +1,7 @@
 -- What holds of the day book between two reads, and what is told to the library of a chunk. Assumes nothing.
-use Rattle.std.specs.Prelude.{◌≡◌, Option, MatchOption, Result, IfOk, List, [], ℕ, suc, ◌+◌, ◌≤◌, ◌<◌, length, take}
+use Rattle.std.specs.Prelude.{◌≡◌, Result, IfOk, List, [], ℕ, suc, ◌+◌, ◌≤◌, ◌<◌, length, take}
+use Rattle.std.specs.declared.ops.ControlFlow.{ControlFlow}
+use Rattle.std.specs.declared.ops.ControlFlow.TheVariants.{Continue, Break}
 use Rattle.tag_index.specs.Tables.{Tables}
 use Rattle.tag_index.specs.Histories.{Feed}
 use Rattle.book_input.specs.Lines.{begun_before, lines_met, left_open}
@@ -23,6 +25,10 @@ pub record PiecesReady (chunk held out : List ℕ) (a : Reading) : Type 0 where
 abbrev pub at_front : Reading → Progress
 at_front a = record { lines = a.lines; held = a.held; at = 0; filled = 0 }
 
+-- How far the day book has come, of its progress in a chunk.
+abbrev pub behind : Progress → Reading
+behind p = record { lines = p.lines; held = p.held }
+
 -- The line begun.
 abbrev pub begun_line : List ℕ → Reading → List ℕ
 begun_line held a = take a.held held
@@ -35,11 +41,10 @@ pub record ChunkTold (t : Tables) (chunk held : List ℕ) (a : Reading) (u : Tab
   pub counted : r.lines ≡ a.lines + length (lines_met (begun_line held a) chunk)
   pub opens : begun_line held₁ r ≡ left_open (begun_line held a) chunk
 
--- So it is, unless a write failed. The slices that were lent keep their lengths in any case.
-pub record PiecesDo {E : Type 0} (t : Tables) (chunk held : List ℕ) (a : Reading) (u : Tables) (held₁ out₁ : List ℕ) (r : Result Reading E) : Type 0 where
-  pub lent : length held₁ ≡ 81
-  pub buffer : 256 ≤ length out₁
-  pub all : IfOk r (λ b. (b.held ≤ 81) × ChunkTold t chunk held a u held₁ b)
+-- So it is, unless a write failed. In any case the lent slices and the reading are as they are between two reads.
+pub record PiecesDo {E : Type 0} (t : Tables) (chunk held : List ℕ) (a : Reading) (u : Tables) (held₁ out₁ : List ℕ) (b : Reading) (r : Result (Unit {0}) E) : Type 0 where
+  pub between : Between held₁ out₁ b
+  pub all : IfOk r (λ _. ChunkTold t chunk held a u held₁ b)
 
 -- There is a number for one line more.
 pub record EndReady (held out : List ℕ) (a : Reading) : Type 0 where
@@ -52,9 +57,19 @@ pub record EndTells (t : Tables) (held : List ℕ) (a : Reading) (u : Tables) : 
   pub printed : List ℕ
   pub told : Told t (suc a.lines) (begun_before (begun_line held a) []) feeds printed u
 
--- What a read gave: a chunk, or nothing at the end of the input, where the day book ends too. Where a write failed it is not said how far the day book came.
-pub record ReadDoes {E : Type 0} (t : Tables) (chunk held : List ℕ) (a : Reading) (u : Tables) (held₁ out₁ : List ℕ) (r : Result (Option Reading) E) : Type 0 where
-  pub lent : length held₁ ≡ 81
-  pub buffer : 256 ≤ length out₁
+-- So it is at the end of the input, be the answer written or not.
+pub record EndDoes (t : Tables) (held : List ℕ) (a : Reading) (u : Tables) (out₁ : List ℕ) (b : Reading) : Type 0 where
+  pub between : Between held out₁ b
+  pub tells : EndTells t held a u
+
+-- Whether the day book goes on: it does behind a chunk, all of which is told, and ends where the read gave nothing.
+abbrev pub GoesOn : Tables → List ℕ → List ℕ → Reading → Tables → List ℕ → Reading → ControlFlow (Unit {0}) (Unit {0}) → Type 0
+GoesOn t chunk held a u held₁ b (Continue tt) = (0 < length chunk) × ChunkTold t chunk held a u held₁ b
+GoesOn t chunk held a u held₁ b (Break tt) = length chunk ≡ 0
+
+-- What a read gave: a chunk, or nothing at the end of the input, where the day book ends too. Where a write failed it is not said how many lines of the
+-- chunk are told.
+pub record ReadDoes {E : Type 0} (t : Tables) (chunk held : List ℕ) (a : Reading) (u : Tables) (held₁ out₁ : List ℕ) (b : Reading) (r : Result (ControlFlow (Unit {0}) (Unit {0})) E) : Type 0 where
+  pub between : Between held₁ out₁ b
   pub tells : length chunk ≡ 0 → EndTells t held a u
-  pub goes_on : IfOk r (λ o. MatchOption o (length chunk ≡ 0) (λ b. (0 < length chunk) × (b.held ≤ 81) × ChunkTold t chunk held a u held₁ b))
+  pub goes_on : IfOk r (GoesOn t chunk held a u held₁ b)

@@ -1,31 +1,31 @@
 // The day book: each line of standard input is answered on standard output.
 #![tactic(auto)]
 
-ghost use Rattle.std.specs.Prelude.{◌≡◌, ◌≤◌, IfOk, IfSome, length};
 ghost use Rattle.book_output.specs.Readings.{Between};
 
 use book_output::Reading;
 use std::io::{self, Read, Write};
+use std::ops::ControlFlow::{self, Break, Continue};
 
 // No run comes to more lines; so their numbers never run out.
 const MAX_LINES: u64 = 9223372036854775808;
 
-// Reads once, and answers what came: how far the day book has come, or `None` at its end.
+// Reads once, and answers what came; whether the day book goes on.
 fn answer_some<R: Read, W: Write>(
     index: &mut [u8],
     keys: &mut [u64],
     used: &mut [u8],
     held: &mut [u8],
     out: &mut [u8],
-    reading: Reading,
+    reading: &mut Reading,
     input: &mut R,
     output: &mut W,
-) -> io::Result<Option<Reading>>
-    requires { Between held.old out.old reading }
-    ensures { IfOk result (λ o. IfSome o (λ next. Between held.new out.new next)) }
+) -> io::Result<ControlFlow<()>>
+    requires { Between held.old out.old reading.old }
+    ensures { Between held.new out.new reading.new }
 {
     if reading.lines > MAX_LINES {
-        return Ok(None);
+        return Ok(Break(()));
     }
     let mut chunk = [0u8; 65536];
     let n = input.read(&mut chunk)?;
@@ -40,17 +40,17 @@ fn answer_all<R: Read, W: Write>(
     used: &mut [u8],
     held: &mut [u8],
     out: &mut [u8],
-    mut reading: Reading,
+    reading: &mut Reading,
     input: &mut R,
     output: &mut W,
 ) -> io::Result<()>
-    requires { Between held.old out.old reading }
-    ensures { (length held.new ≡ 81) × (256 ≤ length out.new) }
+    requires { Between held.old out.old reading.old }
+    ensures { Between held.new out.new reading.new }
 {
     for _ in 0..u64::MAX {
         match answer_some(index, keys, used, held, out, reading, input, output)? {
-            Some(next) => reading = next,
-            None => break,
+            Continue(()) => {}
+            Break(()) => break,
         }
     }
     Ok(())
@@ -71,7 +71,7 @@ fn main(rt: HostRuntime) {
         &mut used,
         &mut held,
         &mut out,
-        Reading::default(),
+        &mut Reading::default(),
         &mut rt.stdin(),
         &mut rt.stdout(),
     );
