@@ -14,5 +14,5 @@ returns-then-count-eq0 c = (search rules, length_refs _ _ ∙ sym c.count.ensure
 pub loop-i-preserved : goal.loop-i-preserved
 loop-i-preserved c = (omega arith, all_used_more _ _ _ c.loop-i.invariant.1 (λ z. c.if-count-eq0.false (c.count.ensures ∙ z)))
 
-pub unreachable-requires : goal.unreachable-requires
-unreachable-requires c = all_used_end _ _ _ _ c.loop-i.invariant.0 (search rules) c.loop-i.invariant.1 c.requires.1
+pub returns : goal.returns
+returns c = absurd (all_used_end _ _ _ _ c.loop-i.invariant.0 (search rules) c.loop-i.invariant.1 c.requires.1)
