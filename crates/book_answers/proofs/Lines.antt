@@ -75,6 +75,12 @@ length_end false = omega arith
 
 -- ---- a line
 
+-- Records that are small one by one are so together.
+pub record_numbers : (rs : List ℕ) (count : ℕ) → ((k : ℕ) → k < count → get_or rs k 0 ≤ 65535) → RecordNumbers (take count rs)
+record_numbers rs zero h = tt
+record_numbers [] (suc count) h = tt
+record_numbers (r ∷ rs) (suc count) h = (h 0 (omega arith), record_numbers rs count (λ k g. h (suc k) (omega arith)))
+
 -- A record takes at most six bytes.
 length_fields : (rs : List ℕ) → RecordNumbers rs → length (fields_of rs) ≤ 6 * length rs
 unfolding fields_of

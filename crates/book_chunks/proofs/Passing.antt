@@ -8,9 +8,10 @@ use lib.Seq.{take_all, take_at, drop_at, drop-drop, take-add, length-take-le}
 use borrow.Rule.Slice.PartMut.{put_mid, mid_of, post_of}
 use Rattle.tag_index.specs.Tables.{Tables}
 use Rattle.book_input.specs.declared.Progress.{Progress}
+use Rattle.book_input.specs.declared.Next.{Next}
 use Rattle.book_input.specs.declared.Next.TheVariants.{Whole, Part}
 use Rattle.book_input.specs.Lines.{begun_before}
-use Rattle.book_input.specs.Progress.{TakesNext, line_answered}
+use Rattle.book_input.specs.Progress.{TakesNext, progress_of, line_answered}
 use Rattle.book_input.proofs.TakenPlaces.{taken_inside, taken_onward, taken_room, taken_lent}
 use Rattle.book_input.proofs.GatheredLines.{passes_none, passes_both, takes_line, takes_part}
 use Rattle.book_lines.specs.Lines.{meaning}
@@ -126,16 +127,23 @@ passed_both a b = record {
 
 -- ---- one turn
 
-module _ {chunk held out after : List ℕ} {p next : Progress} (pre : TurnReady chunk held out p) where
-  -- The answer of a line that is taken has its room and its number.
-  pub turn_room : TakesNext chunk held p after (Whole next) → WithRoom after out next
-  turn_room does = record {
-    lent = taken_lent does.takes pre.ready.lent;
-    room = taken_room does.takes;
-    answer = omega (arith, pre.answer, does.filled);
-    number = omega (arith, pre.ready.numbers, pre.some, does.lines);
-  }
+-- The answer of a line that is taken, or of the part of one, has its room and its number.
+pub turn_room : {chunk held out after : List ℕ} {p : Progress} {next : Next} → TurnReady chunk held out p → TakesNext chunk held p after next
+    → WithRoom after out (progress_of next)
+turn_room {next = Whole q} pre does = record {
+  lent = taken_lent does.takes pre.ready.lent;
+  room = taken_room does.takes;
+  answer = omega (arith, pre.answer, does.filled);
+  number = omega (arith, pre.ready.numbers, pre.some, does.lines);
+}
+turn_room {next = Part q} pre does = record {
+  lent = taken_lent does.takes pre.ready.lent;
+  room = taken_room does.takes;
+  answer = omega (arith, pre.answer, does.filled);
+  number = omega (arith, pre.ready.numbers, pre.some, does.lines);
+}
 
+module _ {chunk held out after : List ℕ} {p next : Progress} (pre : TurnReady chunk held out p) where
   -- A turn that takes a part of a line,
   pub turn_part : {t : Tables} → TakesNext chunk held p after (Part next) → TurnDoes t chunk held out p t after out next
   turn_part does = record {

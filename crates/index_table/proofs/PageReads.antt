@@ -3,11 +3,16 @@ use mathlib.Core.Path.{◌≡◌, sym, ap, ap₂, ◌∙◌}
 use mathlib.Core.List.{List}
 use Prim.Native.Nat.{ℕ, ◌+◌, ◌*◌, ◌≤◌, ◌<◌}
 use native.Mathlib.Omega.{arith}
+use native.Mathlib.Nat.{mul-le-mul_right, mul-le-mul_left}
 use lib.ListN.{length, get_or, drop, length-drop}
 use lib.Seq.{get_or-drop}
 use Rattle.index_table.specs.Layout.{layout_of, page_start, Within, page_bytes, level_of, count_of, first_ref, ref_at}
 use Rattle.index_table.proofs.NumberLaws.{number_two}
 use Rattle.index_table.proofs.PageBytes.{length_page_bytes, page_byte}
+
+-- All pages together fit the address.
+pub pages_bound : (e p : ℕ) → e ≤ 255 → p ≤ 65535 → p * (2 + 3 * e) ≤ 65535 * 767
+pages_bound e p h g = omega (arith, mul-le-mul_right {m = p} {n = 65535} (2 + 3 * e) g, mul-le-mul_left {m = 2 + 3 * e} {n = 767} 65535 (omega arith))
 
 -- The first byte is the level.
 pub read_level : (e : ℕ) (b : List ℕ) (p at : ℕ) → at ≡ page_start (layout_of e) p → get_or b at 0 ≡ level_of (page_bytes (layout_of e) b p)
