@@ -107,8 +107,8 @@ pub fn free_page(index: &mut [u8], e: u8, page: PageNo)
     clear(index, at, 2 + 3 * usize::from(e));
 }
 
-// A page with no entries, where not all are in use. The number behind the last page is never given; where `unreachable!()` stands in its place the page's
-// bytes are found by a multiplication on each turn, and an on that takes many pages of many takes a quarter longer.
+// A page with no entries, where not all are in use. The number behind the last page is never given: with `unreachable!()` in its place the search
+// multiplies on each turn, and takes eight instructions a page for six.
 pub fn find_free(index: &[u8], e: u8, pages: u16) -> PageNo
     requires { (page_start (layout_of e) pages ≤ length index.now) × (used_pages pages (pages_at (layout_of e) index.now) < pages) }
     ensures { (result.0 < pages) × (length (pages_at (layout_of e) index.now result.0) ≡ 0) }
