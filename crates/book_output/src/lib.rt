@@ -30,7 +30,7 @@ impl From<Reading> for Progress {
     }
 }
 
-// Behind the pieces that are written.
+// Behind a piece of the chunk.
 impl From<Progress> for Reading {
     ghost from_gives = { λ p reading. reading ≡ behind p };
 
